@@ -1,0 +1,4 @@
+pub mod Sums
+pub mod Scales
+pub mod Optimal
+pub mod Steps

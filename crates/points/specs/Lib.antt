@@ -1,0 +1,4 @@
+pub mod Tables
+pub mod Nets
+pub mod Plans
+pub mod Sums

@@ -1,0 +1,4 @@
+// Sources of points: pair sources, row sources, and the arithmetic of nets.
+pub mod nets;
+pub mod sources;
+pub mod theorems;
