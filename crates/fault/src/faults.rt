@@ -39,13 +39,31 @@ impl Fault {
     pub fn at_byte(layer: Layer, cause: Cause, byte: usize) -> Fault
         ensures { λ r. ⌜ r ≡ atByte layer cause byte ⌝ }
     {
-        Fault { cause, layer, place: Place::Byte(byte), run: None, seat: None }
+        Fault {
+            cause,
+            layer,
+            place: Place::Byte(byte),
+            run: None,
+            seat: None,
+        }
     }
 
-    pub fn in_phase(layer: Layer, cause: Cause, phase: usize, run: Option<usize>, seat: Option<usize>) -> Fault
+    pub fn in_phase(
+        layer: Layer,
+        cause: Cause,
+        phase: usize,
+        run: Option<usize>,
+        seat: Option<usize>,
+    ) -> Fault
         ensures { λ r. ⌜ r ≡ inPhase layer cause phase run seat ⌝ }
     {
-        Fault { cause, layer, place: Place::Phase(phase), run, seat }
+        Fault {
+            cause,
+            layer,
+            place: Place::Phase(phase),
+            run,
+            seat,
+        }
     }
 
     // One test: this fault where it comes out false.
@@ -93,8 +111,14 @@ pub impl fmt::Display for Fault as FaultDisplay {
         let number = self.cause.number();
         let layer = self.layer;
         let place = self.place;
-        let run = Named { word: " run ", number: self.run };
-        let seat = Named { word: " seat ", number: self.seat };
+        let run = Named {
+            word: " run ",
+            number: self.run,
+        };
+        let seat = Named {
+            word: " seat ",
+            number: self.seat,
+        };
         write!(f, "refused {number} {layer} {place}{run}{seat}")
     }
 }

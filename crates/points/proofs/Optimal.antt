@@ -29,7 +29,7 @@ module _ (t : Table) (q : ℕ → ℕ) (e : ℕ) (π σ : ℕ → ℕ) (l : Lawf
         scaled-add (t .size) (totalTo t π m) (value (t .points m (π m))),
         ap (λ (z : Option ℤ). scaled (t .size) (value z)) a,
         ap (λ (z : Option ℤ). scaled (t .size) (value z)) b,
-        content m h (σ m) p r a b
+        content m h (σ m) p r a b,
       )
 
   -- a full plan permutes the seats, so it pays every price once
@@ -42,5 +42,5 @@ module _ (t : Table) (q : ℕ → ℕ) (e : ℕ) (π σ : ℕ → ℕ) (l : Lawf
 pub best : (t : Table) (q π : ℕ → ℕ) → Lawful t → FullPlan t π → AllContent t q 1 π → Best t π
 best t q π l mine content = record {
   full = mine;
-  most = λ σ other. whole (t .size) (total t σ) (total t π) (omega (arith, ints, near t q 1 π σ l mine content other))
+  most = λ σ other. whole (t .size) (total t σ) (total t π) (omega (arith, ints, near t q 1 π σ l mine content other));
 }

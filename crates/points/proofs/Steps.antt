@@ -20,9 +20,9 @@ next-single t i from None (Some k) a b = absurd (clash (t .points i k) (a k (b .
 next-single t i from (Some j) None a b = absurd (clash (t .points i j) (b j (a .0)) (a .1))
 next-single t i from (Some j) (Some k) a b =
     elim (cases-order j k) [
-      inl e ↦ ap Some e
-    | inr d ↦ elim d [
-        inl l ↦ absurd (clash (t .points i j) (b .2 j (a .0) l) (a .1))
-      | inr l ↦ absurd (clash (t .points i k) (a .2 k (b .0) l) (b .1))
+      | inl e ↦ ap Some e
+      | inr d ↦ elim d [
+        | inl l ↦ absurd (clash (t .points i j) (b .2 j (a .0) l) (a .1))
+        | inr l ↦ absurd (clash (t .points i k) (a .2 k (b .0) l) (b .1))
       ]
     ]

@@ -64,7 +64,7 @@ sum-except (suc n) j g h = go (λ l. sum-except n j g l) (ℕ-discrete j n)
           arith,
           sum-same n (except j g) g (λ k l. except-other j g k (omega arith)),
           ap (except j g) (sym e) ∙ except-same j g,
-          ap g e
+          ap g e,
         )
     go ih (no d) = omega (arith, ih (omega arith), except-other j g n (λ e. d (sym e)))
 
@@ -77,7 +77,7 @@ injected-le (suc n) m f g low apart =
       arith,
       injected-le n m f (except (f n) g) (λ i l. low i (omega arith)) (λ i j k l. apart i j (omega arith) (omega arith)),
       sum-same n (λ i. except (f n) g (f i)) (λ i. g (f i)) (λ i l. except-other (f n) g (f i) (λ e. omega (arith, apart i n (omega arith) (omega arith) e))),
-      sum-except m (f n) g (low n (omega arith))
+      sum-except m (f n) g (low n (omega arith)),
     )
 
 -- no injection into fewer numbers
@@ -98,7 +98,7 @@ permuted n f g low apart =
       sum-add n (λ i. g (f i)) (λ i. sum n g - g (f i)),
       sum-add n g (λ k. sum n g - g k),
       sum-same n (λ i. g (f i) + (sum n g - g (f i))) (λ i. sum n g) (λ i l. omega (arith, at-most-sum n g (f i) (low i l))),
-      sum-same n (λ k. g k + (sum n g - g k)) (λ k. sum n g) (λ k l. omega (arith, at-most-sum n g k l))
+      sum-same n (λ k. g k + (sum n g - g k)) (λ k. sum n g) (λ k l. omega (arith, at-most-sum n g k l)),
     )
 
 -- a sum of which one term changes

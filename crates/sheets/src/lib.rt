@@ -1,0 +1,4 @@
+// Benefit sheets: tables of points as bytes.
+pub mod checks;
+pub mod dense;
+pub mod fields;
