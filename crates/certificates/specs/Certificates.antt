@@ -68,9 +68,13 @@ netsAtMost n v (Some p) x = leZ (net n p x) (v +ℤ pos 1)
 abbrev pub heldNet : Table → List ℕ → List ℕ → ℕ → ℤ
 heldNet t seats prices i = net (t .size) (value (t .points i (seatIn seats i))) (priceIn prices (seatIn seats i))
 
+-- none of the first m seats nets run i over 1 more than v
+abbrev pub seatChecks : Table → List ℕ → ℕ → ℤ → ℕ → Checks
+seatChecks t prices i v m = each m (λ k. test (netsAtMost (t .size) v (t .points i k) (priceIn prices k)) (checkerFault NotContent (Some i) (Some k)))
+
 -- no seat nets run i over 1 more than its own
 abbrev pub contentChecks : Table → List ℕ → List ℕ → ℕ → Checks
-contentChecks t seats prices i = each (t .size) (λ k. test (netsAtMost (t .size) (heldNet t seats prices i) (t .points i k) (priceIn prices k)) (checkerFault NotContent (Some i) (Some k)))
+contentChecks t seats prices i = seatChecks t prices i (heldNet t seats prices i) (t .size)
 
 -- the rules of a certificate, in the order in which they are checked
 abbrev pub certificateChecks : Table → List ℕ → List ℕ → Checks
