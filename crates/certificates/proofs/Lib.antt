@@ -1,3 +1,4 @@
+pub mod Accepts
 pub mod Seats
 pub mod Taken
 pub mod Totals
