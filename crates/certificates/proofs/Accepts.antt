@@ -22,7 +22,7 @@ use Rattle.points.specs.Nets.{net, priceLimit}
 use Rattle.points.specs.Plans.{FullPlan, AllContent, value, total}
 use Rattle.points.proofs.Optimal.{best}
 use Rattle.certificates.specs.Certificates.{sizeLimit, seatIn, priceIn, netsAtMost, heldNet, certificateChecks, Acceptable, Accepted, Refused}
-use Rattle.certificates.proofs.Seats.{allowed-below}
+use Rattle.points.proofs.Rows.{allowed-below}
 
 at-most : (n x : ℕ) (v r : ℤ) (o : Option ℤ) → o ≡ Some r → netsAtMost n v o x ≡ true → net n r x ≤ℤ (v +ℤ pos 1)
 at-most n x v r o e h = let l : leZ (net n r x) (v +ℤ pos 1) ≡ true = sym (ap (λ (u : Option ℤ). netsAtMost n v u x) e) ∙ h in omega (arith, ints, l)

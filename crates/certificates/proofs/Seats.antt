@@ -10,13 +10,8 @@ use lib.IntN.{ℤ}
 use Rattle.std.proofs.shelf.Tests.{cases-lt}
 use Rattle.std.specs.declared.option.Option.{Option}
 use Rattle.fault.specs.Checks.{Passes}
-use Rattle.points.specs.Tables.{Table, Allowed, Lawful, Gap}
-use Rattle.points.proofs.Scales.{worth}
+use Rattle.points.specs.Tables.{Table, Gap}
 use Rattle.certificates.specs.Certificates.{priceIn, netsAtMost, seatChecks}
-
--- an allowed seat is below the size
-pub allowed-below : (t : Table) → Lawful t → (i k : ℕ) → Allowed t i k → k < t .size
-allowed-below t l i k a = let (p, e) = worth t i k a in l .seats i k p e
 
 module _ (t : Table) (prices : List ℕ) (i : ℕ) (v : ℤ) where
   -- seats that are not allowed pass

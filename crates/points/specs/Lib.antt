@@ -2,3 +2,4 @@ pub mod Tables
 pub mod Nets
 pub mod Plans
 pub mod Sums
+pub mod Summaries

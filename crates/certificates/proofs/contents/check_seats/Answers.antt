@@ -10,7 +10,8 @@ use Rattle.std.proofs.shelf.Results.{err-from-errBy}
 use Rattle.fault.specs.Checks.{Passes}
 use Rattle.points.specs.Tables.{Table}
 use Rattle.certificates.specs.Certificates.{seatChecks}
-use Rattle.certificates.proofs.Seats.{allowed-below, passed-gap, passed-more}
+use Rattle.points.proofs.Rows.{allowed-below}
+use Rattle.certificates.proofs.Seats.{passed-gap, passed-more}
 use Rattle.certificates.proofs.contents.check_seats.Given.{Over}
 use Rattle.certificates.proofs.contents.check_seats.Needs as need
 
