@@ -38,6 +38,7 @@ module _ (t : Table) (seats prices : List ℕ) (l : Lawful t) where
       where
         differ : (i j : ℕ) → i < j → j < t .size → seatIn seats i ≡ seatIn seats j → ⊥
         differ i j h k e = both-ways _ (ap not (eq-eqb _ _ e)) (p .1 .0 j k .1 .1 i h)
+
         distinct : (i j : ℕ) → i < t .size → j < t .size → seatIn seats i ≡ seatIn seats j → i ≡ j
         distinct i j h k e = elim (cases-order i j) [ inl q ↦ q | inr d ↦ elim d [ inl a ↦ absurd (differ i j a k e) | inr a ↦ absurd (differ j i a h (sym e)) ] ]
 
@@ -57,7 +58,7 @@ module _ (t : Table) (seats prices : List ℕ) (l : Lawful t) where
           priced = eqb-true _ _ (b .1);
           full = plan;
           cheap = λ k h. leb-true _ _ (p .1 .1 .0 k h);
-          content = content
+          content = content;
         }
 
     pub accepted : (a : ℤ) → a ≡ total t (seatIn seats) → Accepted t seats prices a
@@ -65,17 +66,23 @@ module _ (t : Table) (seats prices : List ℕ) (l : Lawful t) where
 
   -- the other way round
   pub passes : Acceptable t seats prices → Passes (certificateChecks t seats prices)
-  passes a =
-      ((and-from _ _ (le-leb _ _ (a .some)) (le-leb _ _ (a .few)), and-from _ _ (eq-eqb _ _ (a .seated)) (eq-eqb _ _ (a .priced))),
-       ((λ i h. (lt-ltb _ _ (allowed-below t l i (seatIn seats i) (a .full .allowed i h)), (a .full .allowed i h, λ j k. other i j h k))),
-        ((λ k h. le-leb _ _ (a .cheap k h)),
-         λ i h k b. from-at-most (t .size) (priceIn prices k) (heldNet t seats prices i) (t .points i k) (λ r e. held i h k r e (t .points i (seatIn seats i)) refl (a .full .allowed i h)))))
+  passes a = (
+    (and-from _ _ (le-leb _ _ (a .some)) (le-leb _ _ (a .few)), and-from _ _ (eq-eqb _ _ (a .seated)) (eq-eqb _ _ (a .priced))),
+    (
+      (λ i h. (lt-ltb _ _ (allowed-below t l i (seatIn seats i) (a .full .allowed i h)), (a .full .allowed i h, λ j k. other i j h k))),
+      (
+        (λ k h. le-leb _ _ (a .cheap k h)),
+        λ i h k b. from-at-most (t .size) (priceIn prices k) (heldNet t seats prices i) (t .points i k) (λ r e. held i h k r e (t .points i (seatIn seats i)) refl (a .full .allowed i h)),
+      ),
+    ),
+  )
     where
       other : (i j : ℕ) → i < t .size → j < i → not (eqb (seatIn seats j) (seatIn seats i)) ≡ true
       other i j h k = elim (cases-bool (eqb (seatIn seats j) (seatIn seats i))) [
-          inl e ↦ (let q : j ≡ i = a .full .apart j i (omega arith) h (eqb-true _ _ e) in absurd (omega arith))
+        | inl e ↦ (let q : j ≡ i = a .full .apart j i (omega arith) h (eqb-true _ _ e) in absurd (omega arith))
         | inr e ↦ ap not e
-        ]
+      ]
+
       held : (i : ℕ) → i < t .size → (k : ℕ) (r : ℤ) → Pays t i k r → (o : Option ℤ) → t .points i (seatIn seats i) ≡ o → isSome (t .points i (seatIn seats i)) ≡ true → net (t .size) r (priceIn prices k) ≤ℤ (heldNet t seats prices i +ℤ pos 1)
       held i h k r e None f s = let z : _≡_ {A = ℕ} 0 1 = cc (ap isSome f) in absurd (omega arith)
       held i h k r e (Some w) f s = subst (λ (z : ℤ). net (t .size) r (priceIn prices k) ≤ℤ (net (t .size) z (priceIn prices (seatIn seats i)) +ℤ pos 1)) (sym (ap value f)) (a .content i h k w r f e)

@@ -37,24 +37,26 @@ module _ (seats : List ℕ) (i : ℕ) (marks : List Bool) (m : Marked seats i ma
     where
       here : getD (set marks (seatIn seats i) true) (seatIn seats i) false ≡ true
       here = getD-set-same marks (seatIn seats i) true false h
+
       there : (j : ℕ) → j < i + 1 → getD (set marks (seatIn seats i) true) (seatIn seats j) false ≡ true
       there j l = elim (cases-eq (seatIn seats j) (seatIn seats i)) [
-          inl e ↦ subst (λ (k : ℕ). getD (set marks (seatIn seats i) true) k false ≡ true) (sym e) here
+        | inl e ↦ subst (λ (k : ℕ). getD (set marks (seatIn seats i) true) k false ≡ true) (sym e) here
         | inr d ↦ elim (cases-eq j i) [
-            inl e ↦ absurd (d (ap (seatIn seats) e))
+          | inl e ↦ absurd (d (ap (seatIn seats) e))
           | inr n ↦ getD-set-other marks (seatIn seats i) (seatIn seats j) true false d ∙ m .there j (omega arith)
-          ]
         ]
+      ]
+
       only : (k : ℕ) → getD (set marks (seatIn seats i) true) k false ≡ true → (j : ℕ) × (j < i + 1) × (seatIn seats j ≡ k)
       only k e = elim (cases-eq k (seatIn seats i)) [
-          inl q ↦ (i, omega arith, sym q)
+        | inl q ↦ (i, omega arith, sym q)
         | inr d ↦ (let (j, l, s) = m .only k (sym (getD-set-other marks (seatIn seats i) k true false d) ∙ e) in (j, omega arith, s))
-        ]
+      ]
 
 pub marked-none : (seats : List ℕ) (n : ℕ) → Marked seats 0 (replicate n false)
 marked-none seats n = record {
   there = λ j h. absurd (omega arith);
-  only = λ k e. absurd (both-ways _ (blank n k) e)
+  only = λ k e. absurd (both-ways _ (blank n k) e);
 }
   where
     blank : (n k : ℕ) → getD (replicate n false) k false ≡ false

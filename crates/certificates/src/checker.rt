@@ -14,24 +14,24 @@ use points::sources::RowSource;
 
 // The total of a certificate's plan, which no full plan exceeds; or the first rule that the certificate breaks.
 pub fn check<S: RowSource>(source: &S, seats: &[u16], prices: &[u64]) -> Result<i64, Fault>
-    ensures {
-        λ r.
+    ensures { λ r.
         ⌜ Cases r
-            (λ a. Accepted (S·PairSource .table (now (source .entry))) (now (seats .entry)) (now (prices .entry)) a)
-            (λ f. Refused (S·PairSource .table (now (source .entry))) (now (seats .entry)) (now (prices .entry)) f) ⌝
-    }
+        (λ a. Accepted (S·PairSource .table (now (source .entry))) (now (seats .entry)) (now (prices .entry)) a)
+        (λ f. Refused (S·PairSource .table (now (source .entry))) (now (seats .entry)) (now (prices .entry)) f) ⌝ }
 {
     check_rules(source, seats, prices)
 }
 
 // Every rule of a certificate, in order.
-pub(crate) fn check_rules<S: RowSource>(source: &S, seats: &[u16], prices: &[u64]) -> Result<i64, Fault>
-    ensures {
-        λ r.
+pub(crate) fn check_rules<S: RowSource>(
+    source: &S,
+    seats: &[u16],
+    prices: &[u64],
+) -> Result<i64, Fault>
+    ensures { λ r.
         ⌜ Cases r
-            (λ a. Passes (certificateChecks (S·PairSource .table (now (source .entry))) (now (seats .entry)) (now (prices .entry))) × (a ≡ total (S·PairSource .table (now (source .entry))) (seatIn (now (seats .entry)))))
-            (λ f. Refuses (certificateChecks (S·PairSource .table (now (source .entry))) (now (seats .entry)) (now (prices .entry))) f) ⌝
-    }
+        (λ a. Passes (certificateChecks (S·PairSource .table (now (source .entry))) (now (seats .entry)) (now (prices .entry))) × (a ≡ total (S·PairSource .table (now (source .entry))) (seatIn (now (seats .entry)))))
+        (λ f. Refuses (certificateChecks (S·PairSource .table (now (source .entry))) (now (seats .entry)) (now (prices .entry))) f) ⌝ }
 {
     let size = check_size(source.size(), seats.len(), prices.len())?;
     let sum = check_plan(source, seats)?;

@@ -36,7 +36,14 @@ pub(crate) fn net_within(size: u16, points: i32, price: u64) -> i64
 }
 
 // Whether a seat nets a run at most 1 more than its own, or is not allowed.
-pub(crate) fn nets_at_most<S: RowSource>(source: &S, size: u16, prices: &[u64], run: usize, held: i64, seat: usize) -> bool
+pub(crate) fn nets_at_most<S: RowSource>(
+    source: &S,
+    size: u16,
+    prices: &[u64],
+    run: usize,
+    held: i64,
+    seat: usize,
+) -> bool
     requires size { ⌜ size ≡ S·PairSource .table (now source) .size ⌝ }
     requires seat { ⌜ seat < length (now prices) ⌝ }
     requires cheap { ⌜ Passes (priceChecks (length (now prices)) (now prices)) ⌝ }
@@ -50,33 +57,49 @@ pub(crate) fn nets_at_most<S: RowSource>(source: &S, size: u16, prices: &[u64], 
 }
 
 // One seat, with the fault that names it.
-pub(crate) fn check_seat<S: RowSource>(source: &S, size: u16, prices: &[u64], run: usize, held: i64, seat: usize) -> Result<(), Fault>
+pub(crate) fn check_seat<S: RowSource>(
+    source: &S,
+    size: u16,
+    prices: &[u64],
+    run: usize,
+    held: i64,
+    seat: usize,
+) -> Result<(), Fault>
     requires size { ⌜ size ≡ S·PairSource .table (now source) .size ⌝ }
     requires seat { ⌜ seat < length (now prices) ⌝ }
     requires cheap { ⌜ Passes (priceChecks (length (now prices)) (now prices)) ⌝ }
     requires held { ⌜ held ≤ℤ pos 1000000000000000000 ⌝ }
-    ensures {
-        λ r.
+    ensures { λ r.
         ⌜ Cases r
-            (λ _. netsAtMost (S·PairSource .table (now (source .entry)) .size) held (S·PairSource .table (now (source .entry)) .points run seat) (priceIn (now (prices .entry)) seat) ≡ true)
-            (λ f. (netsAtMost (S·PairSource .table (now (source .entry)) .size) held (S·PairSource .table (now (source .entry)) .points run seat) (priceIn (now (prices .entry)) seat) ≡ false) × (f ≡ checkerFault NotContent (Some run) (Some seat))) ⌝
-    }
+        (λ _. netsAtMost (S·PairSource .table (now (source .entry)) .size) held (S·PairSource .table (now (source .entry)) .points run seat) (priceIn (now (prices .entry)) seat) ≡ true)
+        (λ f. (netsAtMost (S·PairSource .table (now (source .entry)) .size) held (S·PairSource .table (now (source .entry)) .points run seat) (priceIn (now (prices .entry)) seat) ≡ false) × (f ≡ checkerFault NotContent (Some run) (Some seat))) ⌝ }
 {
-    checker_fault(Cause::NotContent, Some(run), Some(seat)).unless(nets_at_most(source, size, prices, run, held, seat))
+    checker_fault(Cause::NotContent, Some(run), Some(seat)).unless(nets_at_most(
+        source,
+        size,
+        prices,
+        run,
+        held,
+        seat,
+    ))
 }
 
 // Every allowed seat of a run, from the lowest on.
-pub(crate) fn check_seats<S: RowSource>(source: &S, size: u16, prices: &[u64], run: usize, held: i64) -> Result<(), Fault>
+pub(crate) fn check_seats<S: RowSource>(
+    source: &S,
+    size: u16,
+    prices: &[u64],
+    run: usize,
+    held: i64,
+) -> Result<(), Fault>
     requires size { ⌜ size ≡ S·PairSource .table (now source) .size ⌝ }
     requires priced { ⌜ size ≡ length (now prices) ⌝ }
     requires cheap { ⌜ Passes (priceChecks (length (now prices)) (now prices)) ⌝ }
     requires held { ⌜ held ≤ℤ pos 1000000000000000000 ⌝ }
-    ensures {
-        λ r.
+    ensures { λ r.
         ⌜ Cases r
-            (λ _. Passes (seatChecks (S·PairSource .table (now (source .entry))) (now (prices .entry)) run held (S·PairSource .table (now (source .entry)) .size)))
-            (λ f. Refuses (seatChecks (S·PairSource .table (now (source .entry))) (now (prices .entry)) run held (S·PairSource .table (now (source .entry)) .size)) f) ⌝
-    }
+        (λ _. Passes (seatChecks (S·PairSource .table (now (source .entry))) (now (prices .entry)) run held (S·PairSource .table (now (source .entry)) .size)))
+        (λ f. Refuses (seatChecks (S·PairSource .table (now (source .entry))) (now (prices .entry)) run held (S·PairSource .table (now (source .entry)) .size)) f) ⌝ }
 {
     let mut from = 0;
     while let Some(seat) = source.next(run, from) {
@@ -87,7 +110,13 @@ pub(crate) fn check_seats<S: RowSource>(source: &S, size: u16, prices: &[u64], r
 }
 
 // What a run nets on its seat.
-pub(crate) fn held_net<S: RowSource>(source: &S, size: u16, seats: &[u16], prices: &[u64], run: usize) -> i64
+pub(crate) fn held_net<S: RowSource>(
+    source: &S,
+    size: u16,
+    seats: &[u16],
+    prices: &[u64],
+    run: usize,
+) -> i64
     requires size { ⌜ size ≡ S·PairSource .table (now source) .size ⌝ }
     requires run { ⌜ run < length (now seats) ⌝ }
     requires seat { ⌜ seatIn (now seats) run < length (now prices) ⌝ }
@@ -101,18 +130,21 @@ pub(crate) fn held_net<S: RowSource>(source: &S, size: u16, seats: &[u16], price
 }
 
 // Every run, with every seat that it may take.
-pub(crate) fn check_contents<S: RowSource>(source: &S, size: u16, seats: &[u16], prices: &[u64]) -> Result<(), Fault>
+pub(crate) fn check_contents<S: RowSource>(
+    source: &S,
+    size: u16,
+    seats: &[u16],
+    prices: &[u64],
+) -> Result<(), Fault>
     requires size { ⌜ size ≡ S·PairSource .table (now source) .size ⌝ }
     requires seated { ⌜ size ≡ length (now seats) ⌝ }
     requires priced { ⌜ size ≡ length (now prices) ⌝ }
     requires below { ⌜ ((i : ℕ) → i < length (now seats) → seatIn (now seats) i < length (now prices)) ⌝ }
     requires cheap { ⌜ Passes (priceChecks (length (now prices)) (now prices)) ⌝ }
-    ensures {
-        λ r.
+    ensures { λ r.
         ⌜ Cases r
-            (λ _. Passes (each (length (now (seats .entry))) (contentChecks (S·PairSource .table (now (source .entry))) (now (seats .entry)) (now (prices .entry)))))
-            (λ f. Refuses (each (length (now (seats .entry))) (contentChecks (S·PairSource .table (now (source .entry))) (now (seats .entry)) (now (prices .entry)))) f) ⌝
-    }
+        (λ _. Passes (each (length (now (seats .entry))) (contentChecks (S·PairSource .table (now (source .entry))) (now (seats .entry)) (now (prices .entry)))))
+        (λ f. Refuses (each (length (now (seats .entry))) (contentChecks (S·PairSource .table (now (source .entry))) (now (seats .entry)) (now (prices .entry)))) f) ⌝ }
 {
     for run in 0..seats.len() {
         let held = held_net(source, size, seats, prices, run);

@@ -35,13 +35,15 @@ pub(crate) fn mark(marks: &mut [bool; 256], seat: usize)
 }
 
 // The points of an allowed pair.
-pub(crate) fn allowed_points<S: RowSource>(source: &S, run: usize, seat: usize) -> Result<i32, Fault>
-    ensures {
-        λ r.
+pub(crate) fn allowed_points<S: RowSource>(
+    source: &S,
+    run: usize,
+    seat: usize,
+) -> Result<i32, Fault>
+    ensures { λ r.
         ⌜ Cases r
-            (λ p. S·PairSource .table (now (source .entry)) .points run seat ≡ Some p)
-            (λ f. (S·PairSource .table (now (source .entry)) .points run seat ≡ None) × (f ≡ checkerFault NotAllowed (Some run) (Some seat))) ⌝
-    }
+        (λ p. S·PairSource .table (now (source .entry)) .points run seat ≡ Some p)
+        (λ f. (S·PairSource .table (now (source .entry)) .points run seat ≡ None) × (f ≡ checkerFault NotAllowed (Some run) (Some seat))) ⌝ }
 {
     match source.points(run, seat) {
         Some(points) => Ok(points),
@@ -50,16 +52,19 @@ pub(crate) fn allowed_points<S: RowSource>(source: &S, run: usize, seat: usize) 
 }
 
 // The seat of one run: below the size, allowed, and not that of a lower run; answers its points.
-pub(crate) fn check_run<S: RowSource>(source: &S, seats: &[u16], run: usize, marks: &[bool; 256]) -> Result<i32, Fault>
+pub(crate) fn check_run<S: RowSource>(
+    source: &S,
+    seats: &[u16],
+    run: usize,
+    marks: &[bool; 256],
+) -> Result<i32, Fault>
     requires run { ⌜ run < length (now seats) ⌝ }
     requires size { ⌜ S·PairSource .table (now source) .size ≤ 256 ⌝ }
     requires marked { ⌜ Marked (now seats) run (now marks) ⌝ }
-    ensures {
-        λ r.
+    ensures { λ r.
         ⌜ Cases r
-            (λ p. Passes (runChecks (S·PairSource .table (now (source .entry))) (now (seats .entry)) run) × (S·PairSource .table (now (source .entry)) .points run (seatIn (now (seats .entry)) run) ≡ Some p))
-            (λ f. Refuses (runChecks (S·PairSource .table (now (source .entry))) (now (seats .entry)) run) f) ⌝
-    }
+        (λ p. Passes (runChecks (S·PairSource .table (now (source .entry))) (now (seats .entry)) run) × (S·PairSource .table (now (source .entry)) .points run (seatIn (now (seats .entry)) run) ≡ Some p))
+        (λ f. Refuses (runChecks (S·PairSource .table (now (source .entry))) (now (seats .entry)) run) f) ⌝ }
 {
     let seat = usize::from(seats[run]);
     checker_fault(Cause::Number, Some(run), Some(seat)).unless(seat < source.size())?;
@@ -80,12 +85,10 @@ pub(crate) fn add_points(sum: i64, points: i32) -> i64
 pub(crate) fn check_plan<S: RowSource>(source: &S, seats: &[u16]) -> Result<i64, Fault>
     requires seated { ⌜ length (now seats) ≡ S·PairSource .table (now source) .size ⌝ }
     requires size { ⌜ S·PairSource .table (now source) .size ≤ 256 ⌝ }
-    ensures {
-        λ r.
+    ensures { λ r.
         ⌜ Cases r
-            (λ a. Passes (planChecks (S·PairSource .table (now (source .entry))) (now (seats .entry))) × (a ≡ total (S·PairSource .table (now (source .entry))) (seatIn (now (seats .entry)))))
-            (λ f. Refuses (planChecks (S·PairSource .table (now (source .entry))) (now (seats .entry))) f) ⌝
-    }
+        (λ a. Passes (planChecks (S·PairSource .table (now (source .entry))) (now (seats .entry))) × (a ≡ total (S·PairSource .table (now (source .entry))) (seatIn (now (seats .entry)))))
+        (λ f. Refuses (planChecks (S·PairSource .table (now (source .entry))) (now (seats .entry))) f) ⌝ }
 {
     let mut marks = [false; 256];
     let mut sum: i64 = 0;

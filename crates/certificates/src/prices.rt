@@ -31,12 +31,10 @@ pub(crate) fn check_size(size: usize, seats: usize, prices: usize) -> Result<u16
 
 // No price is over the limit.
 pub(crate) fn check_prices(prices: &[u64]) -> Result<(), Fault>
-    ensures {
-        λ r.
+    ensures { λ r.
         ⌜ Cases r
-            (λ _. Passes (priceChecks (length (now (prices .entry))) (now (prices .entry))))
-            (λ f. Refuses (priceChecks (length (now (prices .entry))) (now (prices .entry))) f) ⌝
-    }
+        (λ _. Passes (priceChecks (length (now (prices .entry))) (now (prices .entry))))
+        (λ f. Refuses (priceChecks (length (now (prices .entry))) (now (prices .entry))) f) ⌝ }
 {
     for seat in 0..prices.len() {
         checker_fault(Cause::PriceTooHigh, None, Some(seat)).unless(prices[seat] <= PRICE_LIMIT)?;

@@ -11,8 +11,14 @@ pub(crate) fn stretch(range: Option<Range>, points: i32) -> Range
     ensures { λ r. ⌜ r ≡ stretched range points ⌝ }
 {
     match range {
-        None => Range { least: points, greatest: points },
-        Some(old) => Range { least: old.least.min(points), greatest: old.greatest.max(points) },
+        None => Range {
+            least: points,
+            greatest: points,
+        },
+        Some(old) => Range {
+            least: old.least.min(points),
+            greatest: old.greatest.max(points),
+        },
     }
 }
 
@@ -22,12 +28,20 @@ pub(crate) fn note(seen: Summary, points: Option<i32>) -> Summary
 {
     match points {
         None => seen,
-        Some(points) => Summary { allowed: seen.allowed.saturating_add(1), range: Some(stretch(seen.range, points)) },
+        Some(points) => Summary {
+            allowed: seen.allowed.saturating_add(1),
+            range: Some(stretch(seen.range, points)),
+        },
     }
 }
 
 // The allowed seats of one run more.
-pub(crate) fn note_row<S: RowSource>(source: &S, size: usize, run: usize, before: Summary) -> Summary
+pub(crate) fn note_row<S: RowSource>(
+    source: &S,
+    size: usize,
+    run: usize,
+    before: Summary,
+) -> Summary
     requires { ⌜ size ≡ S·PairSource .table (now source) .size ⌝ }
     ensures { λ r. ⌜ r ≡ rowNoted (S·PairSource .table (now (source .entry))) run before size ⌝ }
 {
@@ -44,7 +58,10 @@ pub(crate) fn note_row<S: RowSource>(source: &S, size: usize, run: usize, before
 pub fn summarize<S: RowSource>(source: &S) -> Summary
     ensures { λ r. ⌜ r ≡ summaryOf (S·PairSource .table (now (source .entry))) ⌝ }
 {
-    let mut seen = Summary { allowed: 0, range: None };
+    let mut seen = Summary {
+        allowed: 0,
+        range: None,
+    };
     let size = source.size();
     for run in 0..size {
         seen = note_row(source, size, run, seen);

@@ -25,7 +25,7 @@ check-seat-requires g c κs = record {
   size = c .pre .size;
   seat = omega (arith, below g c, c .pre .size, c .pre .priced);
   cheap = c .pre .cheap;
-  held = omega (arith, ints, c .pre .held)
+  held = omega (arith, ints, c .pre .held);
 }
 
 pub returns-in-Break-check-seat : need.returns-in-Break-check-seat
@@ -37,7 +37,7 @@ returns-in-Break-check-seat g c =
     let held : toZ w64 (ofZ w64 (c .args .held)) ≡ c .args .held = omega (arith, ints) in
     let low : seat < t .size = allowed-below t (g .S·PairSource·met .lawful s) (c .args .run) seat (c .in-Some .ensures tt .1) in
     let before : Passes (seatChecks t (c .args .prices .now) (c .args .run) (toZ w64 (ofZ w64 (c .args .held))) seat) =
-        passed-gap t (c .args .prices .now) (c .args .run) (toZ w64 (ofZ w64 (c .args .held))) (c .loop-seat .from) seat (c .in-Some .ensures tt .2) (c .loop-seat .inv .1) in
+    passed-gap t (c .args .prices .now) (c .args .run) (toZ w64 (ofZ w64 (c .args .held))) (c .loop-seat .from) seat (c .in-Some .ensures tt .2) (c .loop-seat .inv .1) in
     rw (p .1, p .2, ← held) (seat, low, before, c .in-Break-check-seat .ensures tt)
 
 pub add-from : need.add-from

@@ -25,12 +25,12 @@ returns g c =
     let prices = c .args .prices .now in
     let seat : c .from-seat .result ≡ seatIn seats (c .args .run) = c .from-seat .ensures in
     let points : toZ w32 (ofZ w32 (c .unwrap-or-points .result)) ≡ value (t .points (c .args .run) (seatIn seats (c .args .run))) =
-        _∙_ {b = c .unwrap-or-points .result} (omega (arith, ints)) (c .unwrap-or-points .ensures ∙ or-none (c .points .result) ∙ ap value (c .points .ensures) ∙ ap (λ (k : ℕ). value (t .points (c .args .run) k)) seat) in
+    _∙_ {b = c .unwrap-or-points .result} (omega (arith, ints)) (c .unwrap-or-points .ensures ∙ or-none (c .points .result) ∙ ap value (c .points .ensures) ∙ ap (λ (k : ℕ). value (t .points (c .args .run) k)) seat) in
     let is : c .net-within .result ≡ heldNet t seats prices (c .args .run) =
-        c .net-within .ensures .value
-        ∙ ap₂ (λ (n : ℕ) (z : ℤ). net n z (priceIn prices (c .from-seat .result))) (c .pre .size) points
-        ∙ ap (λ (k : ℕ). net (t .size) (value (t .points (c .args .run) (seatIn seats (c .args .run)))) (priceIn prices k)) seat in
+    c .net-within .ensures .value
+    ∙ ap₂ (λ (n : ℕ) (z : ℤ). net n z (priceIn prices (c .from-seat .result))) (c .pre .size) points
+    ∙ ap (λ (k : ℕ). net (t .size) (value (t .points (c .args .run) (seatIn seats (c .args .run)))) (priceIn prices k)) seat in
     record {
       value = _∙_ {b = c .net-within .result} (omega (arith, ints)) is;
-      bound = omega (arith, ints, c .net-within .ensures .bound)
+      bound = omega (arith, ints, c .net-within .ensures .bound);
     }

@@ -16,5 +16,5 @@ returns c =
     let is : c .net-points .result ≡ net (c .args .size) (c .args .points) (min (c .args .price) priceLimit) = c .net-points .ensures ∙ ap (λ (z : ℤ). net (c .args .size) z (min (c .args .price) priceLimit)) points in
     record {
       value = omega (arith, ints, is);
-      bound = omega (arith, ints, is, scaled-fits (c .args .size) (c .args .points) (omega arith) (c .fits .points))
+      bound = omega (arith, ints, is, scaled-fits (c .args .size) (c .args .points) (omega arith) (c .fits .points));
     }

@@ -20,7 +20,7 @@ returns-in-Some g c =
     let x : ℕ = priceIn (c .args .prices .now) (c .args .seat) in
     let points : toZ w32 (ofZ w32 p) ≡ p = omega (arith, ints) in
     let other : toZ w64 (ofZ w64 (c .net-within .result)) ≡ net (t .size) p x =
-        _∙_ {b = c .net-within .result} (omega (arith, ints)) (c .net-within .ensures .value ∙ ap₂ (λ (n : ℕ) (z : ℤ). net n z x) (c .pre .size) points) in
+    _∙_ {b = c .net-within .result} (omega (arith, ints)) (c .net-within .ensures .value ∙ ap₂ (λ (n : ℕ) (z : ℤ). net n z x) (c .pre .size) points) in
     let held : toZ w64 (ofZ w64 (c .args .held)) ≡ c .args .held = omega (arith, ints) in
     let allowed : Some p ≡ t .points (c .args .run) (c .args .seat) = c .in-Some .ensures tt in
     c .is-content .ensures

@@ -49,8 +49,9 @@ loop-run-again g c =
     let seat : c .from .result ≡ seatIn seats run = c .from .ensures in
     let marks : c .mark .last .marks ≡ set (c .loop-run .marks) (seatIn seats run) true = c .mark .ensures ∙ ap (λ (k : ℕ). set (c .loop-run .marks) k true) seat in
     let below : seatIn seats run < length (c .loop-run .marks) = omega (arith, ltb-true _ _ (passed .0 .0), c .pre .size, c .loop-run .inv .3) in
-    let more = total-more t (seatIn seats) run (c .in-Continue-points .points) (passed .1) in
-    (below-more (λ i. Passes (runChecks t seats i)) run (c .loop-run .inv .0) (passed .0),
-     subst (Marked seats (run + 1)) (sym marks) (marked-more seats run (c .loop-run .marks) (c .loop-run .inv .1) below),
-     omega (arith, ints, more, c .add-points-sum .ensures, c .loop-run .inv .2),
-     ap length marks ∙ length-set (c .loop-run .marks) (seatIn seats run) true ∙ c .loop-run .inv .3)
+    let more = total-more t (seatIn seats) run (c .in-Continue-points .points) (passed .1) in (
+      below-more (λ i. Passes (runChecks t seats i)) run (c .loop-run .inv .0) (passed .0),
+      subst (Marked seats (run + 1)) (sym marks) (marked-more seats run (c .loop-run .marks) (c .loop-run .inv .1) below),
+      omega (arith, ints, more, c .add-points-sum .ensures, c .loop-run .inv .2),
+      ap length marks ∙ length-set (c .loop-run .marks) (seatIn seats run) true ∙ c .loop-run .inv .3,
+    )

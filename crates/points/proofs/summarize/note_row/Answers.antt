@@ -24,11 +24,12 @@ loop-seat-less g c = omega (arith, below g c, c .in-Some .ensures tt .0)
 pub loop-seat-again : need.loop-seat-again
 loop-seat-again g c =
     let t : Table = g .S·PairSource .table (c .args .source .now) in
-    let e = c .in-Some .ensures tt in
-    (omega (arith, below g c),
-     c .note-seen .ensures
-     ∙ ap₂ noted (c .loop-seat .inv .1) (c .points .ensures)
-     ∙ sym (row-more t (c .args .run) (c .args .before) (c .loop-seat .from) (c .in-Some .seat) (e .0) (e .2)))
+    let e = c .in-Some .ensures tt in (
+      omega (arith, below g c),
+      c .note-seen .ensures
+          ∙ ap₂ noted (c .loop-seat .inv .1) (c .points .ensures)
+          ∙ sym (row-more t (c .args .run) (c .args .before) (c .loop-seat .from) (c .in-Some .seat) (e .0) (e .2)),
+    )
 
 pub returns : need.returns
 returns g c =
