@@ -1,0 +1,3 @@
+// What the program's commands do, on bytes and any source: its lines and its answers.
+pub mod calls;
+pub mod lines;
