@@ -1,0 +1,41 @@
+// The program `mivunduth`: arguments, files and printing over the proved commands.
+mod files;
+mod messages;
+
+use crate::files::check_files;
+use crate::files::show_file;
+use crate::messages::USAGE;
+use crate::messages::wrong_call;
+use std::env;
+use std::error::AnyError;
+
+// The words after the program's name.
+fn words_of(rt: &LibcRuntime) -> Result<Vec<String>, AnyError> {
+    let mut words = Vec::new(rt.alloc());
+    for word in env::args(rt)?.skip(1) {
+        words.push(word)?;
+    }
+    Ok(words)
+}
+
+// One call of the program, by its words.
+fn run(rt: &LibcRuntime, words: &[String]) -> Result<(), AnyError> {
+    match words {
+        [help] if is_help(help.as_str()) => {
+            print!(rt, "{USAGE}")?;
+            Ok(())
+        }
+        [command, sheet] if command.as_str() == "show" => show_file(rt, sheet.as_str()),
+        [command, sheet, certificate] if command.as_str() == "check" => check_files(rt, sheet.as_str(), certificate.as_str()),
+        _ => wrong_call(rt, words),
+    }
+}
+
+fn is_help(word: &str) -> bool {
+    word == "--help" || word == "-h" || word == "help"
+}
+
+fn main(rt: LibcRuntime) -> Result<(), AnyError> {
+    let words = words_of(&rt)?;
+    run(&rt, &words)
+}
