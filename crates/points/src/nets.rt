@@ -1,6 +1,6 @@
 // The arithmetic of nets: points scaled by one more than the size, less a price.
 ghost use mathlib.Core.Path.{_≡_};
-ghost use Prim.Native.Nat.{min, _+_};
+ghost use Prim.Native.Nat.{min, _+_, _≤_};
 ghost use lib.IntN.{pos};
 ghost use Rattle.points.specs.Nets.{priceLimit, scaled, net};
 
@@ -14,16 +14,31 @@ pub fn scale(size: u16) -> i64
     i64::from(size) + 1
 }
 
-// Points times one more than the size.
-pub fn scaled_points(size: u16, points: i32) -> i64
-    ensures { λ r. ⌜ r ≡ scaled size points ⌝ }
+// A price, or the limit where it is over that.
+pub fn limited(price: u64) -> u64
+    ensures { λ r. ⌜ r ≡ min price priceLimit ⌝ }
 {
-    scale(size) * i64::from(points)
+    price.min(PRICE_LIMIT)
 }
 
 // The net of a seat with these points at this price; a price over the limit counts as the limit.
 pub fn net_points(size: u16, points: i32, price: u64) -> i64
     ensures { λ r. ⌜ r ≡ net size points (min price priceLimit) ⌝ }
 {
-    scaled_points(size, points) - price.min(PRICE_LIMIT) as i64
+    net_within(size, points, limited(price))
+}
+
+// Points times one more than the size.
+pub(crate) fn scaled_points(size: u16, points: i32) -> i64
+    ensures { λ r. ⌜ r ≡ scaled size points ⌝ }
+{
+    scale(size) * i64::from(points)
+}
+
+// The net at a price within the limit.
+pub(crate) fn net_within(size: u16, points: i32, price: u64) -> i64
+    requires { ⌜ price ≤ priceLimit ⌝ }
+    ensures { λ r. ⌜ r ≡ net size points price ⌝ }
+{
+    scaled_points(size, points) - price as i64
 }

@@ -3,9 +3,9 @@ use mathlib.Core.Path.{_≡_, ap, _∙_}
 use borrow.Author.Differences.{ints}
 use Rattle.points.specs.Nets.{scaled}
 use Rattle.points.proofs.Scales.{scaled-fits}
-use Rattle.points.proofs.nets.net_points.Needs as need
+use Rattle.points.proofs.nets.net_within.Needs as need
 
-is : (c : need.After-min) → c .scaled-points .result ≡ scaled (c .args .size) (c .args .points)
+is : (c : need.After-scaled-points) → c .scaled-points .result ≡ scaled (c .args .size) (c .args .points)
 is c = c .scaled-points .ensures ∙ ap (scaled (c .args .size)) (omega (arith, ints))
 
 pub sub-result : need.sub-result
