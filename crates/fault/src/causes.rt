@@ -1,4 +1,4 @@
-// Why a call refuses: each cause with its number, and the words that explain it.
+// Why a call refuses: each cause with its number.
 ghost use mathlib.Core.Path.{_≡_};
 ghost use Rattle.fault.specs.Numbers.{numberOf};
 

@@ -1,25 +1,26 @@
 // The commands on files.
+use crate::messages::Stop;
+use crate::messages::StopFromLines;
 use crate::messages::fail;
 use crate::messages::refuse;
 use commands::calls::check_sheet;
 use commands::calls::show_sheet;
 use commands::lines::AcceptedLineDisplay;
 use commands::lines::SheetLineDisplay;
-use std::error::AnyError;
 use std::fs;
 
 // The bytes of a file, or a line that says why it cannot be read.
-fn read_file(rt: &LibcRuntime, path: &str) -> Result<Vec<u8>, AnyError> {
+fn read_file(rt: &LibcRuntime, path: &str) -> Result<Vec<u8>, Stop> {
     match fs::read(rt, path) {
         Ok(bytes) => Ok(bytes),
         Err(error) => {
             eprintln!(rt, "mivunduth: cannot read {path}: {error}")?;
-            Err("cannot read".into())
+            Err(Stop::Said)
         }
     }
 }
 
-pub fn show_file(rt: &LibcRuntime, sheet: &str) -> Result<(), AnyError> {
+pub fn show_file(rt: &LibcRuntime, sheet: &str) -> Result<(), Stop> {
     let bytes = read_file(rt, sheet)?;
     match show_sheet(rt.alloc(), bytes) {
         Ok(line) => {
@@ -30,7 +31,7 @@ pub fn show_file(rt: &LibcRuntime, sheet: &str) -> Result<(), AnyError> {
     }
 }
 
-pub fn check_files(rt: &LibcRuntime, sheet: &str, certificate: &str) -> Result<(), AnyError> {
+pub fn check_files(rt: &LibcRuntime, sheet: &str, certificate: &str) -> Result<(), Stop> {
     let bytes = read_file(rt, sheet)?;
     let plan = read_file(rt, certificate)?;
     match check_sheet(rt.alloc(), bytes, &plan) {

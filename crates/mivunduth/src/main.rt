@@ -4,13 +4,15 @@ mod messages;
 
 use crate::files::check_files;
 use crate::files::show_file;
+use crate::messages::Stop;
+use crate::messages::StopFromLines;
+use crate::messages::StopFromRefused;
 use crate::messages::USAGE;
 use crate::messages::wrong_call;
 use std::env;
-use std::error::AnyError;
 
 // The words after the program's name.
-fn words_of(rt: &LibcRuntime) -> Result<Vec<String>, AnyError> {
+fn words_of(rt: &LibcRuntime) -> Result<Vec<String>, Stop> {
     let mut words = Vec::new(rt.alloc());
     for word in env::args(rt)?.skip(1) {
         words.push(word)?;
@@ -19,7 +21,7 @@ fn words_of(rt: &LibcRuntime) -> Result<Vec<String>, AnyError> {
 }
 
 // One call of the program, by its words.
-fn run(rt: &LibcRuntime, words: &[String]) -> Result<(), AnyError> {
+fn run(rt: &LibcRuntime, words: &[String]) -> Result<(), Stop> {
     match words {
         [help] if is_help(help.as_str()) => {
             print!(rt, "{USAGE}")?;
@@ -35,7 +37,18 @@ fn is_help(word: &str) -> bool {
     word == "--help" || word == "-h" || word == "help"
 }
 
-fn main(rt: LibcRuntime) -> Result<(), AnyError> {
-    let words = words_of(&rt)?;
-    run(&rt, &words)
+// The call that the words of the command line make.
+fn call(rt: &LibcRuntime) -> Result<(), Stop> {
+    let words = words_of(rt)?;
+    run(rt, &words)
+}
+
+fn main(rt: LibcRuntime) -> Result<(), Stop> {
+    match call(&rt) {
+        Err(Stop::Lines(error)) => {
+            let _ = eprintln!(rt, "mivunduth: {error}");
+            Err(Stop::Said)
+        }
+        answer => answer,
+    }
 }

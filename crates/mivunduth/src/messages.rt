@@ -4,7 +4,36 @@ use fault::causes::Cause;
 use fault::faults::Fault;
 use fault::faults::FaultDisplay;
 use sheets::certificate_files::Unreadable;
-use std::error::AnyError;
+use std::alloc::AllocError;
+use std::alloc::Refused;
+use std::io;
+
+// Why the program ends with status 1.
+#[derive(Drop)]
+pub enum Stop {
+    // it has said why on standard error
+    Said,
+    // its words cannot be read, or what it says cannot be written
+    Lines(io::Error),
+}
+
+pub impl From<io::Error> for Stop as StopFromLines {
+    fn from(error: io::Error) -> Stop {
+        Stop::Lines(error)
+    }
+}
+
+pub impl From<AllocError> for Stop as StopFromAlloc {
+    fn from(error: AllocError) -> Stop {
+        Stop::Lines(error.into())
+    }
+}
+
+pub impl<T: Drop> From<Refused<T>> for Stop as StopFromRefused {
+    fn from(_refused: Refused<T>) -> Stop {
+        Stop::Lines(AllocError.into())
+    }
+}
 
 pub const USAGE: &str = "usage: mivunduth check SHEET CERTIFICATE   check that a plan is best, and print its total
        mivunduth show SHEET                what a benefit sheet comes to
@@ -45,29 +74,29 @@ fn explanation(cause: Cause) -> &'static str {
 }
 
 // A refusal: its line with an explanation on standard error, and status 1.
-pub fn refuse(rt: &LibcRuntime, fault: Fault) -> Result<(), AnyError> {
+pub fn refuse(rt: &LibcRuntime, fault: Fault) -> Result<(), Stop> {
     let why = explanation(fault.cause);
     eprintln!(rt, "{fault}: {why}")?;
-    Err("refused".into())
+    Err(Stop::Said)
 }
 
 // A command that failed.
-pub fn fail(rt: &LibcRuntime, certificate: &str, failure: Failure) -> Result<(), AnyError> {
+pub fn fail(rt: &LibcRuntime, certificate: &str, failure: Failure) -> Result<(), Stop> {
     match failure {
         Failure::Refusal(fault) => refuse(rt, fault),
         Failure::NoCertificate(Unreadable::Length) => {
             eprintln!(rt, "mivunduth: {certificate} is no certificate: its length is no multiple of 10 bytes")?;
-            Err("no certificate".into())
+            Err(Stop::Said)
         }
         Failure::NoCertificate(Unreadable::Memory) => {
             eprintln!(rt, "mivunduth: not enough memory to read {certificate}")?;
-            Err("no memory".into())
+            Err(Stop::Said)
         }
     }
 }
 
 // A call that is none of the program's.
-pub fn wrong_call(rt: &LibcRuntime, words: &[String]) -> Result<(), AnyError> {
+pub fn wrong_call(rt: &LibcRuntime, words: &[String]) -> Result<(), Stop> {
     match words {
         [] => {}
         [command, ..] => {
@@ -76,5 +105,5 @@ pub fn wrong_call(rt: &LibcRuntime, words: &[String]) -> Result<(), AnyError> {
         }
     }
     eprint!(rt, "{USAGE}")?;
-    Err("wrong call".into())
+    Err(Stop::Said)
 }
