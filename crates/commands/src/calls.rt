@@ -32,7 +32,11 @@ pub enum Failure {
 pub fn show_source<S: RowSource>(source: &S, kind: Kind) -> SheetLine
     ensures { λ r. ⌜ r ≡ sheetLine kind (S·PairSource .table (now (source .entry))) ⌝ }
 {
-    SheetLine { kind, runs: source.size(), summary: summarize(source) }
+    SheetLine {
+        kind,
+        runs: source.size(),
+        summary: summarize(source),
+    }
 }
 
 // The line of a sheet's bytes.
@@ -45,7 +49,11 @@ pub fn show_sheet(heap: Global, bytes: Vec<u8>) -> Result<SheetLine, Fault>
 }
 
 // A certificate file checked over any source.
-pub fn check_source<S: RowSource>(heap: Global, source: &S, certificate: &[u8]) -> Result<AcceptedLine, Failure>
+pub fn check_source<S: RowSource>(
+    heap: Global,
+    source: &S,
+    certificate: &[u8],
+) -> Result<AcceptedLine, Failure>
     ensures { λ r. ⌜ Judged (S·PairSource .table (now (source .entry))) (now (certificate .entry)) r ⌝ }
 {
     match read_certificate(heap, certificate) {
@@ -58,7 +66,11 @@ pub fn check_source<S: RowSource>(heap: Global, source: &S, certificate: &[u8]) 
 }
 
 // A certificate file checked over a sheet's bytes.
-pub fn check_sheet(heap: Global, bytes: Vec<u8>, certificate: &[u8]) -> Result<AcceptedLine, Failure>
+pub fn check_sheet(
+    heap: Global,
+    bytes: Vec<u8>,
+    certificate: &[u8],
+) -> Result<AcceptedLine, Failure>
     ensures { λ r. ⌜ Checked (vec-items bytes) (now (certificate .entry)) r ⌝ }
 {
     let mut sheet = DenseSheet::new(heap);

@@ -28,7 +28,11 @@ fn run(rt: &LibcRuntime, words: &[String]) -> Result<(), Stop> {
             Ok(())
         }
         [command, sheet] if command.as_str() == "show" => show_file(rt, sheet.as_str()),
-        [command, sheet, certificate] if command.as_str() == "check" => check_files(rt, sheet.as_str(), certificate.as_str()),
+        [command, sheet, certificate] if command.as_str() == "check" => check_files(
+            rt,
+            sheet.as_str(),
+            certificate.as_str(),
+        ),
         _ => wrong_call(rt, words),
     }
 }

@@ -35,7 +35,8 @@ pub impl<T: Drop> From<Refused<T>> for Stop as StopFromRefused {
     }
 }
 
-pub const USAGE: &str = "usage: mivunduth check SHEET CERTIFICATE   check that a plan is best, and print its total
+pub const USAGE: &str =
+    "usage: mivunduth check SHEET CERTIFICATE   check that a plan is best, and print its total
        mivunduth show SHEET                what a benefit sheet comes to
        mivunduth --help                    this text
 
@@ -85,7 +86,10 @@ pub fn fail(rt: &LibcRuntime, certificate: &str, failure: Failure) -> Result<(),
     match failure {
         Failure::Refusal(fault) => refuse(rt, fault),
         Failure::NoCertificate(Unreadable::Length) => {
-            eprintln!(rt, "mivunduth: {certificate} is no certificate: its length is no multiple of 10 bytes")?;
+            eprintln!(
+                rt,
+                "mivunduth: {certificate} is no certificate: its length is no multiple of 10 bytes"
+            )?;
             Err(Stop::Said)
         }
         Failure::NoCertificate(Unreadable::Memory) => {
