@@ -1,2 +1,3 @@
 pub mod Words
 pub mod Cells
+pub mod Worked

@@ -2,3 +2,4 @@
 pub mod checks;
 pub mod dense;
 pub mod fields;
+pub mod theorems;

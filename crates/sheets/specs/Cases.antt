@@ -1,0 +1,29 @@
+-- Worked cases: small sheets, whether they keep the rules, and what they mean.
+use Prim.Native.Nat.{ℕ}
+use mathlib.Core.Path.{_≡_}
+use mathlib.Core.List.{List, [], _∷_}
+use lib.IntN.{ℤ, pos}
+use Rattle.std.specs.declared.option.Option.{Option}
+use Rattle.std.specs.declared.option.Option.the-variants.{Some, None}
+use Rattle.fault.specs.declared.causes.Cause.the-variants.{Length}
+use Rattle.fault.specs.Checks.{answer}
+use Rattle.sheets.specs.Headers.{sheetFault}
+use Rattle.sheets.specs.Dense.{denseChecks, denseTable}
+
+-- a dense sheet of 2 runs: points 5 and 3, then 4 and 1
+abbrev pub twoRuns : List ℕ
+twoRuns =
+    2 ∷ 0 ∷ 0 ∷ 0 ∷ 0 ∷ 0 ∷ 0 ∷ 0
+    ∷ 5 ∷ 0 ∷ 0 ∷ 0 ∷ 3 ∷ 0 ∷ 0 ∷ 0
+    ∷ 4 ∷ 0 ∷ 0 ∷ 0 ∷ 1 ∷ 0 ∷ 0 ∷ 0 ∷ []
+
+pub record Worked-cases : Type 0 where
+  -- no bytes are refused at byte 0
+  pub none-refused : answer (denseChecks []) ≡ Some (sheetFault Length 0)
+  -- the dense sheet of 2 runs keeps the rules and means its four points
+  pub dense-kept : answer (denseChecks twoRuns) ≡ None
+  pub dense-size : denseTable twoRuns .size ≡ 2
+  pub dense-0-0 : denseTable twoRuns .points 0 0 ≡ Some (pos 5)
+  pub dense-0-1 : denseTable twoRuns .points 0 1 ≡ Some (pos 3)
+  pub dense-1-0 : denseTable twoRuns .points 1 0 ≡ Some (pos 4)
+  pub dense-1-1 : denseTable twoRuns .points 1 1 ≡ Some (pos 1)
