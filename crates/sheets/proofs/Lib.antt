@@ -1,3 +1,4 @@
 pub mod Words
 pub mod Cells
 pub mod Worked
+pub mod Spans

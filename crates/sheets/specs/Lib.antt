@@ -2,3 +2,4 @@ pub mod Bytes
 pub mod Headers
 pub mod Dense
 pub mod Cases
+pub mod Sparse

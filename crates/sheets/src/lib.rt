@@ -2,4 +2,5 @@
 pub mod checks;
 pub mod dense;
 pub mod fields;
+pub mod sparse;
 pub mod theorems;
