@@ -1,4 +1,6 @@
 pub mod Words
 pub mod Cells
 pub mod Worked
-pub mod Spans
+pub mod Covered
+pub mod Finds
+pub mod Ranges

@@ -3,3 +3,4 @@ pub mod Headers
 pub mod Dense
 pub mod Cases
 pub mod Sparse
+pub mod Seeks

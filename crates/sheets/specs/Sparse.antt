@@ -122,9 +122,13 @@ sparseChecks bs = sparseFrame bs then sparseRows bs then sparseSpans bs then spa
 abbrev pub covers : List ℕ → ℕ → ℕ → Bool
 covers bs j k = leb (spanFrom bs j) k && ltb k (spanEnd bs j)
 
+-- the word of a point, by its number
+abbrev pub pointWord : List ℕ → ℕ → ℕ
+pointWord bs p = le32 bs (pointsAt bs + 4 * p)
+
 -- the points that span j has for seat k
 abbrev pub spanPoint : List ℕ → ℕ → ℕ → ℤ
-spanPoint bs j k = signed32 (le32 bs (pointsAt bs + 4 * (spanFirst bs j + (k - spanFrom bs j))))
+spanPoint bs j k = signed32 (pointWord bs (spanFirst bs j + (k - spanFrom bs j)))
 
 -- the points for seat k in the first span that covers it, among a number of spans from span j on
 abbrev pub pointIn : List ℕ → ℕ → ℕ → ℕ → Option ℤ

@@ -2,5 +2,7 @@
 pub mod checks;
 pub mod dense;
 pub mod fields;
+pub mod rules;
+pub mod spans;
 pub mod sparse;
 pub mod theorems;

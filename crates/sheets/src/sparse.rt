@@ -1,220 +1,150 @@
 // Sparse sheets: spans of seats for every run, and the points of the covered seats.
-ghost use Prim.Native.Nat.{ℕ, _+_, _*_, _≤_, _<_};
+ghost use Prim.Native.Nat.{ℕ, _+_, _-_, _*_, _≤_, _<_, max};
 ghost use mathlib.Core.Path.{_≡_};
 ghost use mathlib.Core.Bool.{true};
+ghost use mathlib.Core.List.{[]};
 ghost use lib.ListN.{length};
+ghost use Rattle.std.specs.Of.Vec.{vec-items};
 ghost use Rattle.std.specs.Results.{Cases};
-ghost use Rattle.fault.specs.Checks.{Passes, Refuses};
-ghost use Rattle.sheets.specs.Headers.{sizeIn, spansIn};
-ghost use Rattle.sheets.specs.Sparse.{rowFrom, rowLen, rowEnd, endBefore, spanAt, spanFrom, spanLen, spanFirst, spanEnd, seatsBefore, coveredBefore, pointsAt, sparseFrame, endsWell, rowChecks, sparseRows, spanChecks, rowSpans, sparseSpans, pointChecks, sparsePoints, sparseChecks};
-use crate::checks::check_header;
-use crate::checks::check_words;
-use crate::fields::Header;
-use crate::fields::sheet_fault;
-use crate::fields::u16_at;
+ghost use Rattle.fault.specs.Checks.{Passes, Refuses, kept};
+ghost use Rattle.points.specs.Tables.{Table, Next};
+ghost use Rattle.sheets.specs.Headers.{sizeIn, spansIn, sheetTop};
+ghost use Rattle.sheets.specs.Sparse.{pointsAt, sparseChecks, pointWord, sparseTable};
+ghost use Rattle.sheets.specs.Seeks.{pointBy};
+use crate::fields::no_bytes;
 use crate::fields::u32_at;
-use fault::causes::Cause;
+use crate::rules::check_sparse;
+use crate::spans::Span;
+use crate::spans::first_over;
+use crate::spans::span_at;
 use fault::faults::Fault;
+use points::sources::PairSource;
+use points::sources::RowSource;
+use std::alloc::Global;
 
-// The kind of a sparse sheet, as its header has it.
-pub const SPARSE_KIND: u16 = 1;
-
-// No sheet has more spans than this.
-pub const SPAN_LIMIT: u32 = 65_536;
-
-// A row: how many spans it has, from which one on.
-#[derive(Clone, Copy)]
-pub(crate) struct Row {
-    pub from: u32,
-    pub len: u32,
+// A sparse sheet, by its bytes: none, or bytes that keep every rule.
+#[derive(Drop)]
+pub struct SparseSheet {
+    bytes: Vec<u8>,
+    size: usize,
+    ghost sized: { size ≡ sizeIn (vec-items bytes) },
+    ghost keeps: { 0 < length (vec-items bytes) → kept (sparseChecks (vec-items bytes)) ≡ true },
 }
 
-impl Row {
-    // The span after the last one of the row.
-    pub(crate) fn end(self) -> usize
-        ensures { λ r. ⌜ r ≡ self .from + self .len ⌝ }
-    {
-        self.from as usize + self.len as usize
-    }
-}
-
-// The row of a run.
-pub(crate) fn row_of(bytes: &[u8], run: usize) -> Row
-    requires { ⌜ 8 + 8 * run + 8 ≤ length (now bytes) ⌝ }
-    ensures { λ r. ⌜ (r .from ≡ rowFrom (now (bytes .entry)) run) × (r .len ≡ rowLen (now (bytes .entry)) run) ⌝ }
+// The word of a point, by its number.
+pub(crate) fn point_word(bytes: &[u8], size: usize, point: usize) -> u32
+    requires size { ⌜ (size ≡ sizeIn (now bytes)) × (size ≤ 256) × (spansIn (now bytes) ≤ 65536) ⌝ }
+    requires room { ⌜ pointsAt (now bytes) + 4 * point + 4 ≤ length (now bytes) ⌝ }
+    ensures { λ r. ⌜ r ≡ pointWord (now (bytes .entry)) point ⌝ }
 {
-    let from = u32_at(bytes, 8 + 8 * run);
-    let len = u32_at(bytes, 12 + 8 * run);
-    Row { from, len }
+    let spans = u32_at(bytes, 4) as usize;
+    u32_at(bytes, span_at(size, spans) + 4 * point)
 }
 
-// A span: the first seat that it covers, how many it covers, and its first point.
-#[derive(Clone, Copy)]
-pub(crate) struct Span {
-    pub from: u16,
-    pub len: u16,
-    pub first: u32,
-}
-
-impl Span {
-    // The seat after the last one that the span covers.
-    pub(crate) fn end(self) -> usize
-        ensures { λ r. ⌜ r ≡ self .from + self .len ⌝ }
-    {
-        usize::from(self.from) + usize::from(self.len)
-    }
-}
-
-// The first byte of a span.
-pub(crate) fn span_at(size: usize, span: usize) -> usize
-    requires { ⌜ (size ≤ 256) × (span ≤ 65536) ⌝ }
-    ensures { λ r. ⌜ r ≡ spanAt size span ⌝ }
+// The points that a span has for a seat below its end, or nothing where it begins after the seat.
+pub(crate) fn point_of(bytes: &[u8], size: usize, span: Span, seat: usize) -> Option<i32>
+    requires size { ⌜ (size ≡ sizeIn (now bytes)) × (size ≤ 256) × (spansIn (now bytes) ≤ 65536) ⌝ }
+    requires room { ⌜ (span .from ≤ seat → pointsAt (now bytes) + 4 * (span .first + (seat - span .from)) + 4 ≤ length (now bytes)) ⌝ }
+    ensures { λ r. ⌜ r ≡ pointBy (now (bytes .entry)) span seat ⌝ }
 {
-    8 + 8 * size + 8 * span
-}
-
-// The span of a number.
-pub(crate) fn span_of(bytes: &[u8], size: usize, span: usize) -> Span
-    requires size { ⌜ (size ≡ sizeIn (now bytes)) × (size ≤ 256) × (span < 65536) ⌝ }
-    requires room { ⌜ spanAt size span + 8 ≤ length (now bytes) ⌝ }
-    ensures { λ r. ⌜ (r .from ≡ spanFrom (now (bytes .entry)) span) × (r .len ≡ spanLen (now (bytes .entry)) span) × (r .first ≡ spanFirst (now (bytes .entry)) span) ⌝ }
-{
-    let at = span_at(size, span);
-    let from = u16_at(bytes, at);
-    let len = u16_at(bytes, at + 2);
-    let first = u32_at(bytes, at + 4);
-    Span { from, len, first }
-}
-
-// The header, a span count within the limit, and room for the rows and the spans.
-pub(crate) fn check_frame(bytes: &[u8]) -> Result<Header, Fault>
-    ensures { λ r.
-        ⌜ Cases r
-        (λ h. Passes (sparseFrame (now (bytes .entry))) × (h .size ≡ sizeIn (now (bytes .entry))) × (h .spans ≡ spansIn (now (bytes .entry))))
-        (λ f. Refuses (sparseFrame (now (bytes .entry))) f) ⌝ }
-{
-    let header = check_header(bytes, SPARSE_KIND)?;
-    sheet_fault(Cause::Spans, 4).unless(header.spans <= SPAN_LIMIT)?;
-    let end = span_at(usize::from(header.size), header.spans as usize);
-    sheet_fault(Cause::Length, bytes.len()).unless(end <= bytes.len())?;
-    Ok(header)
-}
-
-// Whether a row may end there: the last row at the span count, and any other at most there.
-pub(crate) fn ends_well(size: usize, run: usize, end: usize, spans: usize) -> bool
-    requires { ⌜ run < size ⌝ }
-    ensures { λ r. ⌜ r ≡ endsWell size run end spans ⌝ }
-{
-    if run + 1 == size {
-        end == spans
+    let from = usize::from(span.from);
+    if from <= seat {
+        let word = point_word(bytes, size, span.first as usize + (seat - from));
+        Some(word.cast_signed())
     } else {
-        end <= spans
+        None
     }
 }
 
-// The row of a run, after a row that ended at `before`; answers its end.
-pub(crate) fn check_row(bytes: &[u8], size: usize, spans: usize, run: usize, before: usize) -> Result<usize, Fault>
-    requires frame { ⌜ (size ≡ sizeIn (now bytes)) × (spans ≡ spansIn (now bytes)) × (size ≤ 256) × (8 + 8 * size ≤ length (now bytes)) ⌝ }
-    requires run { ⌜ run < size ⌝ }
-    ensures { λ r.
-        ⌜ Cases r
-        (λ e. Passes (rowChecks (now (bytes .entry)) run before) × (e ≡ rowEnd (now (bytes .entry)) run))
-        (λ f. Refuses (rowChecks (now (bytes .entry)) run before) f) ⌝ }
+// The points of a run on a seat, or nothing where no span of the run covers the seat.
+pub(crate) fn points_in(bytes: &[u8], size: usize, run: usize, seat: usize) -> Option<i32>
+    requires size { ⌜ (size ≡ sizeIn (now bytes)) × (run < size) ⌝ }
+    requires passes { ⌜ Passes (sparseChecks (now bytes)) ⌝ }
+    ensures { λ r. ⌜ r ≡ sparseTable (now (bytes .entry)) .points run seat ⌝ }
 {
-    let row = row_of(bytes, run);
-    sheet_fault(Cause::Spans, 8 + 8 * run).unless(row.from as usize == before)?;
-    sheet_fault(Cause::Spans, 12 + 8 * run).unless(ends_well(size, run, row.end(), spans))?;
-    Ok(row.end())
+    let span = first_over(bytes, size, run, seat)?;
+    point_of(bytes, size, span, seat)
 }
 
-// The rows, in order.
-pub(crate) fn check_rows(bytes: &[u8], size: usize, spans: usize) -> Result<(), Fault>
-    requires { ⌜ (size ≡ sizeIn (now bytes)) × (spans ≡ spansIn (now bytes)) × (size ≤ 256) × (8 + 8 * size ≤ length (now bytes)) ⌝ }
-    ensures { λ r. ⌜ Cases r (λ _. Passes (sparseRows (now (bytes .entry)))) (λ f. Refuses (sparseRows (now (bytes .entry))) f) ⌝ }
+// The first seat that a span covers from a seat below its end on.
+pub(crate) fn reached(span: Span, seat: usize) -> usize
+    ensures { λ r. ⌜ r ≡ max seat (span .from) ⌝ }
 {
-    let mut end = 0;
-    for run in 0..size {
-        end = check_row(bytes, size, spans, run, end)?;
+    seat.max(usize::from(span.from))
+}
+
+// The lowest covered seat of a run that is at least `from`, or nothing where there is none.
+pub(crate) fn next_in(bytes: &[u8], size: usize, run: usize, from: usize) -> Option<usize>
+    requires size { ⌜ (size ≡ sizeIn (now bytes)) × (run < size) ⌝ }
+    requires passes { ⌜ Passes (sparseChecks (now bytes)) ⌝ }
+    ensures { λ r. ⌜ Next (sparseTable (now (bytes .entry))) run from r ⌝ }
+{
+    let span = first_over(bytes, size, run, from)?;
+    Some(reached(span, from))
+}
+
+impl SparseSheet {
+    // The empty sheet, of size 0.
+    pub fn new(heap: Global) -> Self
+        ensures { λ r. ⌜ vec-items (r .bytes) ≡ [] ⌝ }
+    {
+        SparseSheet {
+            bytes: no_bytes(heap),
+            size: 0,
+        }
     }
-    Ok(())
-}
 
-// One span, after one that ended at `before` and with `covered` points before it.
-pub(crate) fn check_span(bytes: &[u8], size: usize, span: usize, before: usize, covered: usize) -> Result<Span, Fault>
-    requires size { ⌜ (size ≡ sizeIn (now bytes)) × (size ≤ 256) × (span < 65536) ⌝ }
-    requires room { ⌜ spanAt size span + 8 ≤ length (now bytes) ⌝ }
-    ensures { λ r.
-        ⌜ Cases r
-        (λ s. Passes (spanChecks (now (bytes .entry)) span before covered) × (s .from ≡ spanFrom (now (bytes .entry)) span) × (s .len ≡ spanLen (now (bytes .entry)) span))
-        (λ f. Refuses (spanChecks (now (bytes .entry)) span before covered) f) ⌝ }
-{
-    let at = span_at(size, span);
-    let found = span_of(bytes, size, span);
-    sheet_fault(Cause::Spans, at).unless(before <= usize::from(found.from))?;
-    sheet_fault(Cause::Spans, at + 2).unless(1 <= found.len && found.end() <= size)?;
-    sheet_fault(Cause::Spans, at + 4).unless(found.first as usize == covered)?;
-    Ok(found)
-}
-
-// The spans of a run's row, with `covered` points before them; answers how many points there are up to their end.
-pub(crate) fn check_row_spans(bytes: &[u8], size: usize, run: usize, covered: usize) -> Result<usize, Fault>
-    requires size { ⌜ (size ≡ sizeIn (now bytes)) × (size ≤ 256) × (run < size) ⌝ }
-    requires row { ⌜ (rowEnd (now bytes) run ≤ 65536) × (spanAt size (rowEnd (now bytes) run) ≤ length (now bytes)) ⌝ }
-    requires covered { ⌜ (covered ≡ coveredBefore (now bytes) (rowFrom (now bytes) run)) × (covered ≤ 256 * rowFrom (now bytes) run) ⌝ }
-    ensures { λ r.
-        ⌜ Cases r
-        (λ c. Passes (rowSpans (now (bytes .entry)) run) × (c ≡ coveredBefore (now (bytes .entry)) (rowEnd (now (bytes .entry)) run)) × (c ≤ 256 * rowEnd (now (bytes .entry)) run))
-        (λ f. Refuses (rowSpans (now (bytes .entry)) run) f) ⌝ }
-{
-    let row = row_of(bytes, run);
-    let first = row.from as usize;
-    let mut end = 0;
-    let mut covered = covered;
-    for place in 0..row.len as usize {
-        let span = check_span(bytes, size, first + place, end, covered)?;
-        end = span.end();
-        covered += usize::from(span.len);
+    // Takes the bytes where they keep every rule; else says which rule they break first, and leaves the sheet as it was.
+    pub fn fill(&mut self, bytes: Vec<u8>) -> Result<(), Fault>
+        ensures { λ r.
+            ⌜ Cases r
+            (λ _. Passes (sparseChecks (vec-items bytes)) × (now (self .exit) .bytes ≡ bytes))
+            (λ f. Refuses (sparseChecks (vec-items bytes)) f × (now (self .exit) ≡ now (self .entry))) ⌝ }
+    {
+        *self = SparseSheet::read(bytes)?;
+        Ok(())
     }
-    Ok(covered)
-}
 
-// The spans of every row, in order; answers how many points there are.
-pub(crate) fn check_spans(bytes: &[u8], size: usize) -> Result<usize, Fault>
-    requires frame { ⌜ Passes (sparseFrame (now bytes)) × (size ≡ sizeIn (now bytes)) ⌝ }
-    requires rows { ⌜ Passes (sparseRows (now bytes)) ⌝ }
-    ensures { λ r.
-        ⌜ Cases r
-        (λ c. Passes (sparseSpans (now (bytes .entry))) × (c ≡ coveredBefore (now (bytes .entry)) (spansIn (now (bytes .entry)))) × (c ≤ 16777216))
-        (λ f. Refuses (sparseSpans (now (bytes .entry))) f) ⌝ }
-{
-    let mut covered = 0;
-    for run in 0..size {
-        covered = check_row_spans(bytes, size, run, covered)?;
+    // The sheet of these bytes, where they keep every rule.
+    pub(crate) fn read(bytes: Vec<u8>) -> Result<SparseSheet, Fault>
+        ensures { λ r.
+            ⌜ Cases r
+            (λ s. Passes (sparseChecks (vec-items bytes)) × (s .bytes ≡ bytes))
+            (λ f. Refuses (sparseChecks (vec-items bytes)) f) ⌝ }
+    {
+        let size = check_sparse(&bytes)?;
+        Ok(SparseSheet { bytes, size })
     }
-    Ok(covered)
 }
 
-// Points to the end of the bytes, as many as there should be, each in range.
-pub(crate) fn check_points(bytes: &[u8], from: usize, count: usize) -> Result<(), Fault>
-    requires { ⌜ (from ≤ 1000000) × (count ≤ 16777216) ⌝ }
-    ensures { λ r. ⌜ Cases r (λ _. Passes (pointChecks (now (bytes .entry)) from count)) (λ f. Refuses (pointChecks (now (bytes .entry)) from count) f) ⌝ }
-{
-    sheet_fault(Cause::Length, bytes.len()).unless(bytes.len() == from + 4 * count)?;
-    check_words(bytes, from, count, false)
+pub impl PairSource for SparseSheet as SparsePairs {
+    const TOP: u32 = 1_000_000;
+
+    ghost top = { sheetTop };
+
+    ghost table = { λ s. sparseTable (vec-items (s .bytes)) };
+
+    fn limit() -> u32 {
+        Self::TOP
+    }
+
+    fn size(&self) -> usize {
+        self.size
+    }
+
+    fn points(&self, run: usize, seat: usize) -> Option<i32> {
+        if run >= self.size {
+            return None;
+        }
+        points_in(&self.bytes, self.size, run, seat)
+    }
 }
 
-// Every rule of a sparse sheet, in order; answers the size.
-pub(crate) fn check_sparse(bytes: &[u8]) -> Result<usize, Fault>
-    ensures { λ r.
-        ⌜ Cases r
-        (λ n. Passes (sparseChecks (now (bytes .entry))) × (n ≡ sizeIn (now (bytes .entry))))
-        (λ f. Refuses (sparseChecks (now (bytes .entry))) f) ⌝ }
-{
-    let header = check_frame(bytes)?;
-    let size = usize::from(header.size);
-    let spans = header.spans as usize;
-    check_rows(bytes, size, spans)?;
-    let covered = check_spans(bytes, size)?;
-    check_points(bytes, span_at(size, spans), covered)?;
-    Ok(size)
+pub impl RowSource for SparseSheet as SparseRows {
+    fn next(&self, run: usize, from: usize) -> Option<usize> {
+        if run >= self.size {
+            return None;
+        }
+        next_in(&self.bytes, self.size, run, from)
+    }
 }

@@ -4,7 +4,7 @@ use native.Mathlib.Numerals.{add-one}
 use borrow.Author.Count.{below-more}
 use Rattle.fault.specs.Checks.{Passes}
 use Rattle.sheets.specs.Sparse.{endBefore, rowChecks}
-use Rattle.sheets.proofs.sparse.check_rows.Needs as need
+use Rattle.sheets.proofs.rules.check_rows.Needs as need
 
 pub loop-run-again : need.loop-run-again
 loop-run-again c =

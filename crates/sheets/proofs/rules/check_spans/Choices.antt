@@ -2,7 +2,7 @@ use Prim.Native.Nat.{_+_, _*_, _≤_}
 use mathlib.Core.Path.{_≡_}
 use Rattle.fault.specs.Checks.{Passes, each}
 use Rattle.sheets.specs.Sparse.{endBefore, coveredBefore, rowSpans}
-use Rattle.sheets.proofs.sparse.check_spans.Given as given
+use Rattle.sheets.proofs.rules.check_spans.Given as given
 
 abbrev pub Inv-loop-run : given.InvT-loop-run
 Inv-loop-run l =

@@ -4,7 +4,7 @@ use mathlib.Core.Path.{_≡_, ap, _∙_}
 use Rattle.sheets.specs.Bytes.{le16, le32}
 use Rattle.sheets.specs.Headers.{sizeIn}
 use Rattle.sheets.specs.Sparse.{spanAt, spanFrom, spanLen, spanFirst}
-use Rattle.sheets.proofs.sparse.span_of.Needs as need
+use Rattle.sheets.proofs.spans.span_of.Needs as need
 
 pub returns : need.returns
 unfolding spanFrom spanLen spanFirst

@@ -48,8 +48,9 @@ ends n i end spans h =
     elim (cases-bool (eqb (i + 1) n)) [
       | inl t ↦ (let e : end ≡ spans = eqb-true _ _ (sym (cond-true (eqb (i + 1) n) (eqb end spans) (leb end spans) t) ∙ h) in (omega arith, λ l. e))
       | inr t ↦ (
-          leb-true _ _ (sym (cond-false (eqb (i + 1) n) (eqb end spans) (leb end spans) t) ∙ h),
-          λ l. let z : _≡_ {A = ℕ} 0 1 = cc (eq-eqb (i + 1) n l) in absurd (omega arith))
+        leb-true _ _ (sym (cond-false (eqb (i + 1) n) (eqb end spans) (leb end spans) t) ∙ h),
+        λ l. let z : _≡_ {A = ℕ} 0 1 = cc (eq-eqb (i + 1) n l) in absurd (omega arith),
+      )
     ]
 
 module _ (bs : List ℕ) (rows : Passes (sparseRows bs)) where

@@ -2,7 +2,7 @@ use Prim.Native.Nat.{_+_, _*_, _≤_}
 use mathlib.Core.Path.{_≡_}
 use Rattle.fault.specs.Checks.{Passes, each}
 use Rattle.sheets.specs.Sparse.{rowFrom, seatsBefore, coveredBefore, spanChecks}
-use Rattle.sheets.proofs.sparse.check_row_spans.Given as given
+use Rattle.sheets.proofs.rules.check_row_spans.Given as given
 
 abbrev pub Inv-loop-place : given.InvT-loop-place
 Inv-loop-place l =

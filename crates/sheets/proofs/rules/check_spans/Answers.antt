@@ -3,8 +3,8 @@ use native.Mathlib.Numerals.{add-one}
 use borrow.Author.Count.{below-more}
 use Rattle.fault.specs.Checks.{Passes}
 use Rattle.sheets.specs.Sparse.{rowSpans}
-use Rattle.sheets.proofs.Spans.{covered-none}
-use Rattle.sheets.proofs.sparse.check_spans.Needs as need
+use Rattle.sheets.proofs.Covered.{covered-none}
+use Rattle.sheets.proofs.rules.check_spans.Needs as need
 
 pub loop-run-holds : need.loop-run-holds
 loop-run-holds c = (λ k h. absurd (omega arith), covered-none (c .args .bytes .now), omega arith)

@@ -1,6 +1,6 @@
 use borrow.Author.Needs.{needs}
 use Rattle.sheets.specs.Sparse.{rowFrom, rowLen}
-use Rattle.sheets.proofs.sparse.row_of.Needs as need
+use Rattle.sheets.proofs.spans.row_of.Needs as need
 
 pub returns : need.returns
 unfolding rowFrom rowLen
