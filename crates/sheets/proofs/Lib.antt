@@ -4,3 +4,4 @@ pub mod Worked
 pub mod Covered
 pub mod Finds
 pub mod Ranges
+pub mod Merges

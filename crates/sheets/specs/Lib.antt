@@ -3,4 +3,5 @@ pub mod Headers
 pub mod Dense
 pub mod Sparse
 pub mod Seeks
+pub mod Merging
 pub mod Cases
