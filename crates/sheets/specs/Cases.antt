@@ -9,6 +9,7 @@ use Rattle.fault.specs.declared.causes.Cause.the-variants.{Length, Spans}
 use Rattle.fault.specs.Checks.{answer}
 use Rattle.sheets.specs.Headers.{sheetFault}
 use Rattle.sheets.specs.Dense.{denseChecks, denseTable}
+use Rattle.sheets.specs.Merging.{Merged}
 use Rattle.sheets.specs.Sparse.{sparseChecks, sparseTable}
 
 -- a dense sheet of 2 runs: points 5 and 3, then 4 and 1
@@ -28,6 +29,18 @@ touching =
     ∷ 2 ∷ 0 ∷ 0 ∷ 0 ∷ 0 ∷ 0 ∷ 0 ∷ 0
     ∷ 0 ∷ 0 ∷ 2 ∷ 0 ∷ 0 ∷ 0 ∷ 0 ∷ 0
     ∷ 2 ∷ 0 ∷ 1 ∷ 0 ∷ 2 ∷ 0 ∷ 0 ∷ 0
+    ∷ 7 ∷ 0 ∷ 0 ∷ 0 ∷ 7 ∷ 0 ∷ 0 ∷ 0
+    ∷ 7 ∷ 0 ∷ 0 ∷ 0 ∷ []
+
+-- the same sheet with those spans merged into (0, 3)
+abbrev pub joined : List ℕ
+joined =
+    4 ∷ 0 ∷ 1 ∷ 0 ∷ 1 ∷ 0 ∷ 0 ∷ 0
+    ∷ 0 ∷ 0 ∷ 0 ∷ 0 ∷ 1 ∷ 0 ∷ 0 ∷ 0
+    ∷ 1 ∷ 0 ∷ 0 ∷ 0 ∷ 0 ∷ 0 ∷ 0 ∷ 0
+    ∷ 1 ∷ 0 ∷ 0 ∷ 0 ∷ 0 ∷ 0 ∷ 0 ∷ 0
+    ∷ 1 ∷ 0 ∷ 0 ∷ 0 ∷ 0 ∷ 0 ∷ 0 ∷ 0
+    ∷ 0 ∷ 0 ∷ 3 ∷ 0 ∷ 0 ∷ 0 ∷ 0 ∷ 0
     ∷ 7 ∷ 0 ∷ 0 ∷ 0 ∷ 7 ∷ 0 ∷ 0 ∷ 0
     ∷ 7 ∷ 0 ∷ 0 ∷ 0 ∷ []
 
@@ -71,6 +84,9 @@ pub record Worked-cases : Type 0 where
   pub touching-1 : sparseTable touching .points 0 1 ≡ Some (pos 7)
   pub touching-2 : sparseTable touching .points 0 2 ≡ Some (pos 7)
   pub touching-3 : sparseTable touching .points 0 3 ≡ None
+  -- merged into one span they keep the rules too
+  pub joined-kept : answer (sparseChecks joined) ≡ None
+  pub joined-merged : Merged touching joined 0 0
   -- a span may end with the last seat, and not past it: that is refused at its length field
   pub to-the-end : answer (sparseChecks toTheEnd) ≡ None
   pub past-the-end : answer (sparseChecks pastTheEnd) ≡ Some (sheetFault Spans 42)
