@@ -13,6 +13,7 @@ ghost use Rattle.sheets.specs.Dense.{rowAt, cell, denseFrame, denseCells, dens
 use crate::checks::ABSENT;
 use crate::checks::check_header;
 use crate::checks::check_words;
+use crate::fields::no_bytes;
 use crate::fields::sheet_fault;
 use crate::fields::u32_at;
 use fault::causes::Cause;
@@ -96,7 +97,7 @@ impl DenseSheet {
         ensures { λ r. ⌜ vec-items (r .bytes) ≡ [] ⌝ }
     {
         DenseSheet {
-            bytes: Vec::new(heap),
+            bytes: no_bytes(heap),
             size: 0,
         }
     }

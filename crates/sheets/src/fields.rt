@@ -1,7 +1,9 @@
 // Fields of a sheet: little-endian numbers, and the header.
 ghost use Prim.Native.Nat.{ℕ, _+_, _≤_, _<_};
 ghost use mathlib.Core.Path.{_≡_};
+ghost use mathlib.Core.List.{[]};
 ghost use lib.ListN.{length};
+ghost use Rattle.std.specs.Of.Vec.{vec-items};
 ghost use Rattle.std.specs.Results.{Cases};
 ghost use Rattle.fault.specs.declared.causes.Cause.the-variants.{Length};
 ghost use Rattle.sheets.specs.Bytes.{le16, le32};
@@ -9,6 +11,7 @@ ghost use Rattle.sheets.specs.Headers.{sizeIn, kindIn, spansIn, sheetFault};
 use fault::causes::Cause;
 use fault::faults::Fault;
 use fault::layers::Layer;
+use std::alloc::Global;
 
 // The number of 16 bits at a byte.
 pub(crate) fn u16_at(bytes: &[u8], at: usize) -> u16
@@ -70,4 +73,12 @@ pub(crate) fn read_header(bytes: &[u8]) -> Result<Header, Fault>
     let kind = read_u16(bytes, 2)?;
     let spans = read_u32(bytes, 4)?;
     Ok(Header { size, kind, spans })
+}
+
+// No bytes; the size in their header counts as 0.
+pub(crate) fn no_bytes(heap: Global) -> Vec<u8>
+    ensures none { λ r. ⌜ vec-items r ≡ [] ⌝ }
+    ensures size { λ r. ⌜ (length (vec-items r) ≡ 0) × (sizeIn (vec-items r) ≡ 0) ⌝ }
+{
+    Vec::new(heap)
 }

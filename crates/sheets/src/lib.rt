@@ -3,3 +3,7 @@ pub mod certificate_files;
 pub mod checks;
 pub mod dense;
 pub mod fields;
+pub mod rules;
+pub mod spans;
+pub mod sparse;
+pub mod theorems;
