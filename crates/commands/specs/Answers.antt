@@ -1,6 +1,7 @@
 -- What `show` and `check` answer, by the bytes that they are given.
 use Prim.Native.Nat.{ℕ}
 use mathlib.Core.Path.{_≡_}
+use mathlib.Core.Bool.{cond}
 use mathlib.Core.List.{List}
 use mathlib.Core.Logic.{_⊎_}
 use Rattle.std.specs.Of.Vec.{vec-items}
@@ -8,29 +9,38 @@ use Rattle.std.specs.Results.{Cases}
 use Rattle.std.specs.declared.result.Result.{Result}
 use Rattle.std.specs.declared.result.Result.the-variants.{Ok, Err}
 use Rattle.fault.specs.declared.faults.Fault.{Fault}
-use Rattle.fault.specs.Checks.{Passes, Refuses}
+use Rattle.fault.specs.Checks.{Checks, Passes, Refuses}
 use Rattle.points.specs.Tables.{Table}
-use Rattle.sheets.specs.Dense.{denseChecks, denseTable}
+use Rattle.sheets.specs.Kinds.{namesSparse, sheetChecks, sheetTable}
 use Rattle.sheets.specs.CertificateFiles.{Holds, Unread}
 use Rattle.sheets.specs.declared.certificate_files.Certificate.{Certificate}
 use Rattle.certificates.specs.Certificates.{Accepted, Refused}
 use Rattle.commands.specs.declared.calls.Failure.{Failure}
 use Rattle.commands.specs.declared.calls.Failure.the-variants.{Refusal, NoCertificate}
-use Rattle.commands.specs.declared.lines.SheetLine.{SheetLine}
 use Rattle.commands.specs.declared.lines.AcceptedLine.{AcceptedLine}
-use Rattle.commands.specs.declared.lines.Kind.the-variants.{Dense}
+use Rattle.commands.specs.declared.lines.Kind.{Kind}
+use Rattle.commands.specs.declared.lines.Kind.the-variants.{Dense, Sparse}
+use Rattle.commands.specs.declared.lines.SheetLine.{SheetLine}
 use Rattle.commands.specs.Lines.{sheetLine}
 
--- the line of the table that the bytes mean, or the first rule that they break
+-- the line of a table, or the first rule that its bytes break
+abbrev pub ShownAs : Kind → Checks → Table → Result SheetLine Fault → Type 0
+ShownAs kind c t r = Cases r (λ l. Passes c × (l ≡ sheetLine kind t)) (λ f. Refuses c f)
+
+-- the same of a sheet's bytes, by the kind that the header names
 abbrev pub Shown : List ℕ → Result SheetLine Fault → Type 0
-Shown bs r = Cases r (λ l. Passes (denseChecks bs) × (l ≡ sheetLine Dense (denseTable bs))) (λ f. Refuses (denseChecks bs) f)
+Shown bs r = ShownAs (cond (namesSparse bs) Sparse Dense) (sheetChecks bs) (sheetTable bs) r
 
--- a certificate file checked over a table: accepted, refused, or not one of seats and prices
-abbrev pub Judged : Table → List ℕ → Result AcceptedLine Failure → Type 0
-Judged t cs (Ok l) = (c : Certificate) × Holds cs c × Accepted t (vec-items (c .seats)) (vec-items (c .prices)) (l .total)
-Judged t cs (Err (Refusal f)) = (c : Certificate) × Holds cs c × Refused t (vec-items (c .seats)) (vec-items (c .prices)) f
-Judged t cs (Err (NoCertificate e)) = Unread cs e
+-- seats and prices checked over a table whose bytes are refused first
+abbrev pub JudgedBy : Checks → Table → List ℕ → List ℕ → Result AcceptedLine Fault → Type 0
+JudgedBy c t seats prices r = Cases r (λ l. Passes c × Accepted t seats prices (l .total)) (λ f. Refuses c f ⊎ (Passes c × Refused t seats prices f))
 
--- the same over a sheet's bytes, which are refused first
+-- the same over a sheet's bytes
+abbrev pub Judged : List ℕ → List ℕ → List ℕ → Result AcceptedLine Fault → Type 0
+Judged bs seats prices r = JudgedBy (sheetChecks bs) (sheetTable bs) seats prices r
+
+-- a certificate file over a sheet's bytes: not one of seats and prices, or judged
 abbrev pub Checked : List ℕ → List ℕ → Result AcceptedLine Failure → Type 0
-Checked bs cs r = (Passes (denseChecks bs) × Judged (denseTable bs) cs r) ⊎ ((f : Fault) × Refuses (denseChecks bs) f × (r ≡ Err (Refusal f)))
+Checked bs cs (Ok l) = (c : Certificate) × Holds cs c × Judged bs (vec-items (c .seats)) (vec-items (c .prices)) (Ok l)
+Checked bs cs (Err (Refusal f)) = (c : Certificate) × Holds cs c × Judged bs (vec-items (c .seats)) (vec-items (c .prices)) (Err f)
+Checked bs cs (Err (NoCertificate e)) = Unread cs e

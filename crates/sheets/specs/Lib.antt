@@ -1,6 +1,7 @@
 pub mod Bytes
 pub mod Headers
 pub mod Dense
+pub mod Kinds
 pub mod CertificateFiles
 pub mod Sparse
 pub mod Seeks
