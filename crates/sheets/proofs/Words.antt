@@ -1,17 +1,16 @@
 -- Fields of no bytes are 0, and words of points are in range.
 use Prim.Native.Nat.{ℕ, _≤_, _<_}
 use mathlib.Core.Path.{_≡_, refl}
-use mathlib.Core.Bool.{Bool, true, false, _&&_, _||_}
+use mathlib.Core.Bool.{true}
 use mathlib.Core.List.{List, [], _∷_}
-use mathlib.Core.Logic.{_⊎_, inl, inr}
 use native.Mathlib.Omega.{arith}
 use borrow.Author.Differences.{ints}
 use lib.IntN.{ℤ, pos, negℤ}
 use lib.ListN.{length}
 use lib.Signed.{leZ, _≤ℤ_}
 use Rattle.std.proofs.shelf.Tests.{and-parts}
-use Rattle.sheets.specs.Bytes.{le16, le32}
-use Rattle.sheets.specs.Headers.{sizeIn, spansIn, sheetTop, signed32, inRange}
+use Rattle.sheets.specs.Bytes.{le16}
+use Rattle.sheets.specs.Headers.{sizeIn, sheetTop, signed32, inRange}
 
 pub empty-size : (bs : List ℕ) → length bs ≡ 0 → sizeIn bs ≡ 0
 unfolding le16

@@ -2,8 +2,7 @@
 use Prim.Native.Nat.{ℕ}
 use mathlib.Core.Path.{_≡_}
 use mathlib.Core.List.{List, [], _∷_}
-use lib.IntN.{ℤ, pos}
-use Rattle.std.specs.declared.option.Option.{Option}
+use lib.IntN.{pos}
 use Rattle.std.specs.declared.option.Option.the-variants.{Some, None}
 use Rattle.fault.specs.declared.causes.Cause.the-variants.{Length, Spans}
 use Rattle.fault.specs.Checks.{answer}
