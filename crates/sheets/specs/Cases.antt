@@ -70,6 +70,7 @@ pastTheEnd =
 pub record Worked-cases : Type 0 where
   -- no bytes are refused at byte 0
   pub none-refused : answer (denseChecks []) ≡ Some (sheetFault Length 0)
+  pub none-refused-sparse : answer (sparseChecks []) ≡ Some (sheetFault Length 0)
   -- the dense sheet of 2 runs keeps the rules and means its four points
   pub dense-kept : answer (denseChecks twoRuns) ≡ None
   pub dense-size : denseTable twoRuns .size ≡ 2
