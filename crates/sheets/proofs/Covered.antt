@@ -1,7 +1,7 @@
 -- What the checks of rows and spans say, and how many seats the spans cover.
-use Prim.Native.Nat.{ℕ, zero, suc, _+_, _*_, _≤_, _<_}
+use Prim.Native.Nat.{ℕ, zero, suc, _+_, _≤_, _<_}
 use mathlib.Core.Path.{_≡_, refl, sym, subst, _∙_}
-use mathlib.Core.Bool.{true, false, cond}
+use mathlib.Core.Bool.{true}
 use mathlib.Core.List.{List}
 use mathlib.Core.Logic.{inl, inr}
 use native.Mathlib.Omega.{arith}
@@ -12,7 +12,7 @@ use Rattle.std.proofs.shelf.Tests.{and-parts, leb-true, eqb-true, eq-eqb, cases
 use Rattle.points.specs.Sums.{sum}
 use Rattle.fault.specs.Checks.{Passes}
 use Rattle.sheets.specs.Headers.{sizeIn, spansIn}
-use Rattle.sheets.specs.Sparse.{rowFrom, rowLen, rowEnd, endBefore, spanFrom, spanLen, spanFirst, spanEnd, coveredBefore, pointsAt, sparseFrame, endsWell, rowChecks, sparseRows, spanChecks}
+use Rattle.sheets.specs.Sparse.{rowFrom, rowEnd, endBefore, spanFrom, spanLen, spanFirst, spanEnd, coveredBefore, pointsAt, sparseFrame, endsWell, sparseRows, spanChecks}
 
 -- no span covers nothing
 pub covered-none : (bs : List ℕ) → 0 ≡ coveredBefore bs 0

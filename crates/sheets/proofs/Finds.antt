@@ -1,19 +1,17 @@
 -- Which seats the spans of a row cover, and with which points.
-use Prim.Native.Nat.{ℕ, zero, suc, _+_, _-_, _*_, _≤_, _<_, max}
+use Prim.Native.Nat.{ℕ, zero, suc, _+_, _-_, _≤_, _<_}
 use mathlib.Core.Path.{_≡_, refl, sym, ap, subst, _∙_}
-use mathlib.Core.Bool.{Bool, true, false, cond, _&&_}
+use mathlib.Core.Bool.{true, false}
 use mathlib.Core.List.{List}
-use mathlib.Core.Logic.{_⊎_, inl, inr}
+use mathlib.Core.Logic.{inl, inr}
 use native.Mathlib.Omega.{arith}
 use lib.Dec.{leb, ltb}
 use lib.IntN.{ℤ}
-use lib.ListN.{length}
-use Rattle.std.proofs.shelf.Tests.{cases-lt, cases-order, cases-eq, cases-bool, cond-true, cond-false, and-left, and-right, and-from, lt-leb, le-leb, le-ltb, lt-ltb, both-ways}
-use Rattle.std.specs.declared.option.Option.{Option}
+use Rattle.std.proofs.shelf.Tests.{cases-order, cases-eq, cases-bool, cond-true, cond-false, and-left, and-right, and-from, lt-leb, le-leb, le-ltb, lt-ltb}
 use Rattle.std.specs.declared.option.Option.the-variants.{Some, None}
 use Rattle.fault.specs.Checks.{Passes}
-use Rattle.sheets.specs.Headers.{sizeIn, spansIn}
-use Rattle.sheets.specs.Sparse.{rowFrom, rowLen, rowEnd, spanFrom, spanLen, spanFirst, spanEnd, seatsBefore, coveredBefore, pointsAt, spanChecks, sparseSpans, covers, spanPoint, pointIn, sparseTable}
+use Rattle.sheets.specs.Headers.{sizeIn}
+use Rattle.sheets.specs.Sparse.{rowFrom, rowLen, rowEnd, spanFrom, spanLen, spanFirst, spanEnd, seatsBefore, coveredBefore, sparseSpans, covers, spanPoint, pointIn, sparseTable}
 use Rattle.sheets.specs.Seeks.{Rising, Passed}
 use Rattle.sheets.proofs.Covered.{span-parts, checks-same}
 

@@ -1,20 +1,19 @@
 -- A sheet and the same sheet with touching spans merged mean the same table.
-use Prim.Native.Nat.{ℕ, zero, suc, _+_, _-_, _*_, _≤_, _<_}
-use mathlib.Core.Path.{_≡_, refl, sym, ap, subst, _∙_}
-use mathlib.Core.Bool.{Bool, true, false, cond, _&&_}
+use Prim.Native.Nat.{ℕ, zero, suc, _+_, _-_, _≤_, _<_}
+use mathlib.Core.Path.{_≡_, refl, sym, ap, _∙_}
 use mathlib.Core.List.{List}
-use mathlib.Core.Logic.{_⊎_, inl, inr}
+use mathlib.Core.Logic.{inl, inr}
 use native.Mathlib.Omega.{arith}
 use native.Mathlib.Numerals.{add-one}
 use lib.Dec.{leb, ltb}
 use lib.IntN.{ℤ}
-use Rattle.std.proofs.shelf.Tests.{cases-lt, cases-order, cases-eq, and-parts, leb-true, ltb-true, cond-true, cond-false, le-ltb, lt-ltb}
+use Rattle.std.proofs.shelf.Tests.{cases-lt, cases-order, cases-eq, and-parts, leb-true, ltb-true, cond-false, le-ltb}
 use Rattle.std.specs.declared.option.Option.{Option}
 use Rattle.std.specs.declared.option.Option.the-variants.{Some, None}
 use Rattle.fault.specs.Checks.{Passes}
 use Rattle.sheets.specs.Headers.{sizeIn, spansIn, signed32}
-use Rattle.sheets.specs.Sparse.{rowFrom, rowLen, rowEnd, endBefore, spanFrom, spanLen, spanFirst, spanEnd, coveredBefore, sparseChecks, sparseRows, covers, pointWord, spanPoint, pointIn, sparseTable}
-use Rattle.sheets.specs.Merging.{Merged, SameTable, Merging-keeps-the-table}
+use Rattle.sheets.specs.Sparse.{rowFrom, rowLen, rowEnd, spanFrom, spanLen, spanFirst, spanEnd, coveredBefore, sparseChecks, sparseRows, pointWord, spanPoint, pointIn, sparseTable}
+use Rattle.sheets.specs.Merging.{Merged, Merging-keeps-the-table}
 use Rattle.sheets.proofs.Covered.{covered-none, covered-more, row-from, row-end}
 use Rattle.sheets.proofs.Finds.{find-some, find-back, inside, after, span-fields, in-order, table-is}
 use Rattle.sheets.proofs.Ranges.{point-below}

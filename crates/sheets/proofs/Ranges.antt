@@ -1,7 +1,7 @@
 -- The points of a sparse sheet: where they lie, and in which range.
 use Prim.Native.Nat.{ℕ, zero, suc, _+_, _-_, _*_, _≤_, _<_}
-use mathlib.Core.Path.{_≡_, refl, sym, ap, _∙_}
-use mathlib.Core.Bool.{Bool, true, false, cond, _&&_}
+use mathlib.Core.Path.{_≡_, sym, ap, _∙_}
+use mathlib.Core.Bool.{true}
 use mathlib.Core.List.{List}
 use mathlib.Core.Logic.{inl, inr}
 use native.Mathlib.Omega.{arith}
@@ -15,8 +15,8 @@ use Rattle.std.specs.declared.option.Option.the-variants.{Some, None}
 use Rattle.fault.specs.Checks.{Passes, kept}
 use Rattle.fault.proofs.Once.{kept-passes}
 use Rattle.points.specs.Tables.{Pays, Lawful}
-use Rattle.sheets.specs.Headers.{sizeIn, spansIn, sheetTop, signed32}
-use Rattle.sheets.specs.Sparse.{rowFrom, rowLen, rowEnd, spanFrom, spanLen, spanFirst, spanEnd, coveredBefore, pointsAt, sparseChecks, covers, pointWord, spanPoint, pointIn, sparseTable}
+use Rattle.sheets.specs.Headers.{sizeIn, spansIn, sheetTop}
+use Rattle.sheets.specs.Sparse.{rowFrom, rowLen, rowEnd, spanFrom, spanFirst, spanEnd, coveredBefore, pointsAt, sparseChecks, pointWord, spanPoint, pointIn, sparseTable}
 use Rattle.sheets.proofs.Words.{filled, range-bounds}
 use Rattle.sheets.proofs.Covered.{covered-more, row-end}
 use Rattle.sheets.proofs.Finds.{find-back, span-fields, table-is}

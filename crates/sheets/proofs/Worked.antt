@@ -45,6 +45,7 @@ pub worked : Worked-cases
 unfolding le16 le32 sum rowFrom rowLen spanFrom spanLen spanFirst
 worked = record {
   none-refused = refl;
+  none-refused-sparse = refl;
   dense-kept = refl;
   dense-size = refl;
   dense-0-0 = refl;

@@ -2,8 +2,7 @@
 use Prim.Native.Nat.{ℕ}
 use mathlib.Core.Path.{_≡_}
 use mathlib.Core.List.{List, [], _∷_}
-use lib.IntN.{ℤ, pos}
-use Rattle.std.specs.declared.option.Option.{Option}
+use lib.IntN.{pos}
 use Rattle.std.specs.declared.option.Option.the-variants.{Some, None}
 use Rattle.fault.specs.declared.causes.Cause.the-variants.{Length, Spans}
 use Rattle.fault.specs.Checks.{answer}
@@ -71,6 +70,7 @@ pastTheEnd =
 pub record Worked-cases : Type 0 where
   -- no bytes are refused at byte 0
   pub none-refused : answer (denseChecks []) ≡ Some (sheetFault Length 0)
+  pub none-refused-sparse : answer (sparseChecks []) ≡ Some (sheetFault Length 0)
   -- the dense sheet of 2 runs keeps the rules and means its four points
   pub dense-kept : answer (denseChecks twoRuns) ≡ None
   pub dense-size : denseTable twoRuns .size ≡ 2

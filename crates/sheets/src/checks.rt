@@ -1,5 +1,5 @@
 // Checks that every kind of sheet shares: the header, and words of points.
-ghost use Prim.Native.Nat.{ℕ, _+_, _*_, _≤_, _<_};
+ghost use Prim.Native.Nat.{_+_, _*_, _≤_, _<_};
 ghost use mathlib.Core.Path.{_≡_};
 ghost use mathlib.Core.Bool.{true, false};
 ghost use lib.ListN.{length};
@@ -7,7 +7,7 @@ ghost use Rattle.std.specs.Results.{Cases};
 ghost use Rattle.fault.specs.Checks.{Passes, Refuses};
 ghost use Rattle.fault.specs.declared.causes.Cause.the-variants.{Points};
 ghost use Rattle.sheets.specs.Bytes.{le32};
-ghost use Rattle.sheets.specs.Headers.{sizeIn, kindIn, spansIn, sheetFault, headerChecks, inRange, taken, wordChecks};
+ghost use Rattle.sheets.specs.Headers.{sizeIn, spansIn, sheetFault, headerChecks, inRange, taken, wordChecks};
 use crate::fields::Header;
 use crate::fields::read_header;
 use crate::fields::sheet_fault;

@@ -1,5 +1,5 @@
 // Dense sheets: the points of every run on every seat.
-ghost use Prim.Native.Nat.{ℕ, _+_, _*_, _≤_, _<_};
+ghost use Prim.Native.Nat.{_+_, _*_, _≤_, _<_};
 ghost use mathlib.Core.Path.{_≡_};
 ghost use mathlib.Core.Bool.{true};
 ghost use mathlib.Core.List.{[]};
@@ -7,7 +7,6 @@ ghost use lib.ListN.{length};
 ghost use Rattle.std.specs.Of.Vec.{vec-items};
 ghost use Rattle.std.specs.Results.{Cases};
 ghost use Rattle.fault.specs.Checks.{Passes, Refuses, kept};
-ghost use Rattle.points.specs.Tables.{Table};
 ghost use Rattle.sheets.specs.Headers.{sizeIn, sheetTop};
 ghost use Rattle.sheets.specs.Dense.{rowAt, cell, denseFrame, denseCells, denseChecks, denseTable};
 use crate::checks::ABSENT;

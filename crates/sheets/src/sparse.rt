@@ -1,5 +1,5 @@
 // Sparse sheets: spans of seats for every run, and the points of the covered seats.
-ghost use Prim.Native.Nat.{ℕ, _+_, _-_, _*_, _≤_, _<_, max};
+ghost use Prim.Native.Nat.{_+_, _-_, _*_, _≤_, _<_, max};
 ghost use mathlib.Core.Path.{_≡_};
 ghost use mathlib.Core.Bool.{true};
 ghost use mathlib.Core.List.{[]};
@@ -7,7 +7,7 @@ ghost use lib.ListN.{length};
 ghost use Rattle.std.specs.Of.Vec.{vec-items};
 ghost use Rattle.std.specs.Results.{Cases};
 ghost use Rattle.fault.specs.Checks.{Passes, Refuses, kept};
-ghost use Rattle.points.specs.Tables.{Table, Next};
+ghost use Rattle.points.specs.Tables.{Next};
 ghost use Rattle.sheets.specs.Headers.{sizeIn, spansIn, sheetTop};
 ghost use Rattle.sheets.specs.Sparse.{pointsAt, sparseChecks, pointWord, sparseTable};
 ghost use Rattle.sheets.specs.Seeks.{pointBy};

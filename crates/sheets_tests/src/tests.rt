@@ -1,7 +1,6 @@
 // Damaged sheets: what filling answers is what the plain reading says.
 use crate::readings::dense_fault;
 use crate::readings::sparse_fault;
-use fault::faults::Fault;
 use fault::faults::FaultDebug;
 use fault::faults::FaultPartialEq;
 use sheets::dense::DenseSheet;

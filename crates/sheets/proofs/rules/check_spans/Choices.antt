@@ -1,4 +1,4 @@
-use Prim.Native.Nat.{_+_, _*_, _≤_}
+use Prim.Native.Nat.{_*_, _≤_}
 use mathlib.Core.Path.{_≡_}
 use Rattle.fault.specs.Checks.{Passes, each}
 use Rattle.sheets.specs.Sparse.{endBefore, coveredBefore, rowSpans}

@@ -1,8 +1,7 @@
 use native.Mathlib.Omega.{arith}
-use Prim.Native.Nat.{ℕ, _+_, _≤_, _<_}
-use mathlib.Core.Path.{_≡_}
+use Prim.Native.Nat.{_≤_, _<_}
 use Rattle.sheets.specs.Headers.{sizeIn, spansIn}
-use Rattle.sheets.specs.Sparse.{rowFrom, rowLen, rowEnd}
+use Rattle.sheets.specs.Sparse.{rowEnd}
 use Rattle.sheets.proofs.Covered.{frame-parts, row-end}
 use Rattle.sheets.proofs.Finds.{rising}
 use Rattle.sheets.proofs.spans.first_over.Needs as need

@@ -1,9 +1,9 @@
 use native.Mathlib.Omega.{arith}
 use Prim.Native.Nat.{ℕ, _≤_, _<_, max}
-use mathlib.Core.Path.{_≡_, ap, _∙_}
+use mathlib.Core.Path.{_≡_, ap}
 use Rattle.std.specs.Options.{isSome}
 use Rattle.sheets.specs.Headers.{sizeIn}
-use Rattle.sheets.specs.Sparse.{spanFrom, spanLen, spanEnd}
+use Rattle.sheets.specs.Sparse.{spanFrom, spanLen}
 use Rattle.sheets.proofs.Finds.{span-fields, passed-none, gap-none, over-some}
 use Rattle.sheets.proofs.sparse.next_in.Needs as need
 

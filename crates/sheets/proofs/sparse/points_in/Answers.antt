@@ -7,7 +7,7 @@ use Rattle.std.proofs.shelf.Tests.{cases-lt, cond-true, cond-false, le-leb, lt-
 use Rattle.std.specs.declared.option.Option.the-variants.{Some, None}
 use Rattle.sheets.specs.declared.spans.Span.{Span}
 use Rattle.sheets.specs.Headers.{sizeIn, signed32}
-use Rattle.sheets.specs.Sparse.{spanFrom, spanFirst, spanEnd, pointWord, spanPoint}
+use Rattle.sheets.specs.Sparse.{spanFrom, spanFirst, pointWord}
 use Rattle.sheets.proofs.Covered.{frame-parts}
 use Rattle.sheets.proofs.Finds.{passed-none, gap-none, over-some}
 use Rattle.sheets.proofs.Ranges.{point-room}
