@@ -1,0 +1,4 @@
+pub mod Limits
+pub mod Faces
+pub mod Rows
+pub mod Commons

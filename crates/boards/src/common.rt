@@ -1,0 +1,65 @@
+// The common board: what is shown is always what was told.
+ghost use mathlib.Core.Path.{_≡_};
+ghost use Prim.Native.Nat.{ℕ};
+ghost use Rattle.boards.specs.Faces.{Cleared, Told, Carried, Settled, Level};
+ghost use Rattle.boards.specs.Commons.{commonFace, commonSound};
+use crate::board::PriceBoard;
+use crate::rows::PriceRow;
+use crate::rows::size_after_clear;
+use crate::states::CommonBoard;
+
+impl CommonBoard {
+    // A board of no seats.
+    pub fn new() -> Self
+        ensures { λ r. ⌜ Cleared 0 (commonFace r) ⌝ }
+    {
+        CommonBoard { size: 0, told: PriceRow::new() }
+    }
+}
+
+pub impl PriceBoard for CommonBoard as CommonIsBoard {
+    ghost face = { commonFace };
+
+    ghost sound = { commonSound };
+
+    fn clear(&mut self, n: usize) {
+        self.told = PriceRow::new();
+        self.size = size_after_clear(n);
+    }
+
+    fn tell(&mut self, seat: usize, x: u64)
+        ensures does { λ _. ⌜ (commonSound (now (self .entry)) → Told (commonFace (now (self .entry))) (commonFace (now (self .exit))) seat x) ⌝ }
+        ensures safe { λ _. ⌜ (commonSound (now (self .entry)) → commonSound (now (self .exit))) ⌝ }
+        ensures level { λ _. ⌜ Level (commonFace (now (self .exit))) ⌝ }
+    {
+        if self.told.takes(self.size, seat, x) {
+            self.told.put(seat, x);
+        }
+    }
+
+    fn size(&self) -> usize {
+        self.size
+    }
+
+    fn shows(&self, run: usize, seat: usize) -> u64 {
+        if run < self.size { self.told(seat) } else { 0 }
+    }
+
+    fn told(&self, seat: usize) -> u64 {
+        if seat < self.size { self.told.prices[seat] } else { 0 }
+    }
+
+    fn carry(&mut self, r: usize)
+        ensures does { λ _. ⌜ (commonSound (now (self .entry)) → Carried (commonFace (now (self .entry))) (commonFace (now (self .exit)))) ⌝ }
+        ensures safe { λ _. ⌜ (commonSound (now (self .entry)) → commonSound (now (self .exit))) ⌝ }
+        ensures same { λ _. ⌜ now (self .exit) ≡ now (self .entry) ⌝ }
+    {
+    }
+
+    fn settle(&mut self)
+        ensures does { λ _. ⌜ (commonSound (now (self .entry)) → Settled (commonFace (now (self .entry))) (commonFace (now (self .exit)))) ⌝ }
+        ensures safe { λ _. ⌜ (commonSound (now (self .entry)) → commonSound (now (self .exit))) ⌝ }
+        ensures same { λ _. ⌜ now (self .exit) ≡ now (self .entry) ⌝ }
+    {
+    }
+}

@@ -1,0 +1,5 @@
+// Price boards: what one means, the common board, the site board, and the delay layer over any board.
+pub mod board;
+pub mod common;
+pub mod rows;
+pub mod states;
