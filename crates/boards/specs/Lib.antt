@@ -3,3 +3,4 @@ pub mod Faces
 pub mod Rows
 pub mod Copies
 pub mod Commons
+pub mod Sites

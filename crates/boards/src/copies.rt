@@ -1,10 +1,10 @@
 // A site's copy of the told prices, which may lie behind them at some seats.
 ghost use mathlib.Core.Path.{_≡_};
-ghost use mathlib.Core.Logic.{_⊎_};
+ghost use mathlib.Core.Logic.{_⊎_, _≢_};
 ghost use Prim.Native.Nat.{ℕ, _+_, _<_, _≤_};
 ghost use Rattle.boards.specs.Limits.{seatLimit, siteCount};
 ghost use Rattle.boards.specs.Rows.{at};
-ghost use Rattle.boards.specs.Copies.{copyAt, marked, BroughtUp, blank};
+ghost use Rattle.boards.specs.Copies.{copyAt, marked, BroughtUp, Short, blank};
 use crate::rows::PriceRow;
 use crate::rows::SEAT_LIMIT;
 
@@ -59,9 +59,19 @@ pub fn mark_all(copies: &mut [SiteCopy; SITES], seat: usize)
     }
 }
 
+// Copies the told prices wherever the copy of one site may lie behind.
+pub fn bring_one_up(copies: &mut [SiteCopy; SITES], told: &PriceRow, site: usize)
+    requires short { ⌜ Short (now copies) ⌝ }
+    requires within { ⌜ site < siteCount ⌝ }
+    ensures here { λ _. ⌜ BroughtUp (now (told .entry)) (copyAt (now (copies .entry)) site) (copyAt (now (copies .exit)) site) ⌝ }
+    ensures elsewhere { λ _. ⌜ ((c : ℕ) → c ≢ site → copyAt (now (copies .exit)) c ≡ copyAt (now (copies .entry)) c) ⌝ }
+{
+    copies[site].bring_up(told);
+}
+
 // Copies the told prices wherever a site's copy may lie behind.
 pub fn bring_all_up(copies: &mut [SiteCopy; SITES], told: &PriceRow)
-    requires { ⌜ ((c : ℕ) → copyAt (now copies) c .to ≤ seatLimit) ⌝ }
+    requires { ⌜ Short (now copies) ⌝ }
     ensures { λ _. ⌜ ((c : ℕ) → c < siteCount → BroughtUp (now (told .entry)) (copyAt (now (copies .entry)) c) (copyAt (now (copies .exit)) c)) ⌝ }
 {
     for c in 0..SITES {

@@ -3,4 +3,5 @@ pub mod board;
 pub mod common;
 pub mod copies;
 pub mod rows;
+pub mod site;
 pub mod states;
