@@ -1,3 +1,4 @@
 pub mod Places
 pub mod Sites
 pub mod Faces
+pub mod Held

@@ -4,3 +4,5 @@ pub mod Rows
 pub mod Copies
 pub mod Commons
 pub mod Sites
+pub mod Tellings
+pub mod Layers

@@ -2,6 +2,8 @@
 pub mod board;
 pub mod common;
 pub mod copies;
+pub mod delay;
 pub mod rows;
 pub mod site;
 pub mod states;
+pub mod tellings;

@@ -1,0 +1,37 @@
+-- Tellings that are held back, the oldest first.
+use mathlib.Core.Path.{_≡_}
+use mathlib.Core.Bool.{cond}
+use mathlib.Core.List.{List, [], _∷_}
+use Prim.Native.Nat.{ℕ, _<_, _≤_}
+use lib.Dec.{eqb}
+use lib.ListN.{length, getD}
+use Rattle.boards.specs.declared.tellings.Telling.{Telling}
+use Rattle.boards.specs.Faces.{Face, Told}
+
+-- the price of the newest telling for seat k, or x where there is none
+abbrev pub newest : List Telling → ℕ → ℕ → ℕ
+newest [] k x = x
+newest (t ∷ ts) k x = newest ts k (cond (eqb k (t .seat)) (t .price) x)
+
+-- each telling is for a seat below n
+abbrev pub Seated : ℕ → List Telling → Type 0
+Seated n [] = Unit {0}
+Seated n (t ∷ ts) = (t .seat < n) × Seated n ts
+
+-- the tellings for seat k never fall, from x upward
+abbrev pub Climbs : List Telling → ℕ → ℕ → Type 0
+Climbs [] k x = Unit {0}
+Climbs (t ∷ ts) k x = (k ≡ t .seat → x ≤ t .price) × Climbs ts k (cond (eqb k (t .seat)) (t .price) x)
+
+-- f became g when it was told these tellings, in order
+abbrev pub Passed : List Telling → Face → Face → Type 0
+Passed [] f g = f ≡ g
+Passed (t ∷ ts) f g = (m : Face) × Told f m (t .seat) (t .price) × Passed ts m g
+
+-- the telling at a place of a list
+abbrev pub tellingAt : List Telling → ℕ → Telling
+tellingAt ts i = getD ts i (record { seat = 0; price = 0 })
+
+-- the tellings of each seat rise from oldest to newest: of two for one seat, the older is never higher
+abbrev pub Rise : List Telling → Type 0
+Rise ts = (i j : ℕ) → i < j → j < length ts → tellingAt ts i .seat ≡ tellingAt ts j .seat → tellingAt ts i .price ≤ tellingAt ts j .price
