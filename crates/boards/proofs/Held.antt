@@ -1,14 +1,17 @@
 -- Tellings that are held back.
-use mathlib.Core.Path.{_≡_, sym, ap, _∙_}
+use mathlib.Core.Path.{_≡_, refl, sym, ap, subst, _∙_}
 use mathlib.Core.Bool.{cond}
+use mathlib.Core.Logic.{⊎-elim}
 use mathlib.Core.List.{List, [], _∷_, _++_}
-use Prim.Native.Nat.{ℕ, _+_, _<_, _≤_}
+use Prim.Native.Nat.{ℕ, min, _+_, _<_, _≤_}
 use lib.Dec.{eqb}
-use lib.ListN.{length, getD, drop}
+use lib.ListN.{length, getD, take, drop}
 use native.Mathlib.Omega.{arith}
-use Rattle.std.proofs.shelf.Lists.{at-drop-more, at-drop-all}
+use Rattle.std.proofs.shelf.Lists.{at-drop-more, at-drop-all, take-all, drop-all}
+use Rattle.std.proofs.shelf.Tests.{cases-lt}
 use Rattle.boards.specs.declared.tellings.Telling.{Telling}
-use Rattle.boards.specs.Tellings.{newest}
+use Rattle.boards.specs.Faces.{Face, Told}
+use Rattle.boards.specs.Tellings.{newest, Passed}
 
 -- a loop's step from the oldest on: y is the price so far with the telling at i, and x the one without
 pub newest-more : (ts : List Telling) (i k x y : ℕ) (t : Telling) → i < length ts → y ≡ cond (eqb k (getD ts i t .seat)) (getD ts i t .price) x → newest (drop (i + 1) ts) k y ≡ newest (drop i ts) k x
@@ -17,3 +20,21 @@ newest-more ts i k x y t h is =
 
 pub newest-all : (ts : List Telling) (i k x : ℕ) → length ts ≤ i → newest (drop i ts) k x ≡ x
 newest-all ts i k x h = at-drop-all (λ us. newest us k x) ts i h
+
+-- one telling more, the last
+pub passed-push : (ts : List Telling) (t : Telling) (f g h : Face) → Passed ts f g → Told g h (t .seat) (t .price) → Passed (ts ++ (t ∷ [])) f h
+passed-push [] t f g h p told = (h, subst (λ (e : Face). Told e h (t .seat) (t .price)) (sym p) told, refl)
+passed-push (s ∷ ts) t f g h (m, first, p) told = (m, first, passed-push ts t m g h p told)
+
+-- the first n, or all if fewer
+pub take-min : (n : ℕ) (ts : List Telling) → take (min n (length ts)) ts ≡ take n ts
+take-min n ts = ⊎-elim
+    (λ (h : n < length ts). let e : min n (length ts) ≡ n = omega arith in ap (λ (m : ℕ). take m ts) e)
+    (λ (h : length ts ≤ n). let l : length ts ≤ min n (length ts) = omega arith in take-all (min n (length ts)) ts l ∙ sym (take-all n ts h))
+    (cases-lt n (length ts))
+
+pub drop-min : (n : ℕ) (ts : List Telling) → drop (min n (length ts)) ts ≡ drop n ts
+drop-min n ts = ⊎-elim
+    (λ (h : n < length ts). let e : min n (length ts) ≡ n = omega arith in ap (λ (m : ℕ). drop m ts) e)
+    (λ (h : length ts ≤ n). let l : length ts ≤ min n (length ts) = omega arith in drop-all (min n (length ts)) ts l ∙ sym (drop-all n ts h))
+    (cases-lt n (length ts))

@@ -4,7 +4,7 @@ ghost use mathlib.Core.List.{[]};
 ghost use Prim.Native.Nat.{ℕ, _<_, _≤_};
 ghost use lib.ListN.{take, drop};
 ghost use Rattle.std.specs.Orderings.{Decides};
-ghost use Rattle.std.specs.Of.Vec.{vec-items, vec-len};
+ghost use Rattle.std.specs.Of.Vec.{vec-items, vec-len, vec-cap};
 ghost use Rattle.std.specs.Vec.{made};
 ghost use Rattle.boards.specs.Limits.{heldLimit};
 ghost use Rattle.boards.specs.Faces.{Takes};
@@ -13,6 +13,7 @@ ghost use Rattle.boards.specs.Layers.{layerOf, layerFace};
 use crate::board::PriceBoard;
 use crate::states::Delay;
 use crate::tellings::Telling;
+use crate::tellings::tell_all;
 use std::alloc::AllocError;
 use std::alloc::Global;
 
@@ -49,4 +50,27 @@ impl<B: PriceBoard> Delay<B> {
     {
         seat < self.below.size() && x >= self.latest(seat)
     }
+
+    // Tells the board below the oldest tellings in order, `count` of them or all if fewer, and holds them no more.
+    fn pass(&mut self, count: usize)
+        ensures held { λ _. ⌜ vec-items (now (self .exit) .held) ≡ drop count (vec-items (now (self .entry) .held)) ⌝ }
+        ensures below { λ _. ⌜ (B·PriceBoard .sound (now (self .entry) .below) → Passed (take count (vec-items (now (self .entry) .held))) (B·PriceBoard .face (now (self .entry) .below)) (B·PriceBoard .face (now (self .exit) .below))) ⌝ }
+        ensures safe { λ _. ⌜ (B·PriceBoard .sound (now (self .entry) .below) → B·PriceBoard .sound (now (self .exit) .below)) ⌝ }
+    {
+        let passing = count.min(self.held.len());
+        tell_all(&mut self.below, &self.held[..passing]);
+        drop_oldest(&mut self.held, passing);
+    }
+}
+
+// Drops the first of a list, `count` of them, without giving room back.
+fn drop_oldest(held: &mut Vec<Telling>, count: usize)
+    requires { ⌜ count ≤ vec-len (now held) ⌝ }
+    ensures held { λ _. ⌜ vec-items (now (held .exit)) ≡ drop count (vec-items (now (held .entry))) ⌝ }
+    ensures len { λ _. ⌜ vec-len (now (held .exit)) ≤ vec-len (now (held .entry)) ⌝ }
+    ensures room { λ _. ⌜ vec-cap (now (held .exit)) ≡ vec-cap (now (held .entry)) ⌝ }
+{
+    let left = held.len() - count;
+    held.rotate_left(count);
+    held.truncate(left);
 }
