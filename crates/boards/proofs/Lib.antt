@@ -2,3 +2,4 @@ pub mod Places
 pub mod Sites
 pub mod Faces
 pub mod Held
+pub mod Layers

@@ -1,7 +1,7 @@
 // The delay layer: over any board, it holds back the newest tellings.
 ghost use mathlib.Core.Path.{_≡_};
 ghost use mathlib.Core.List.{[]};
-ghost use Prim.Native.Nat.{ℕ, _<_, _≤_};
+ghost use Prim.Native.Nat.{_+_, _-_, _<_, _≤_};
 ghost use lib.ListN.{take, drop};
 ghost use Rattle.std.specs.Orderings.{Decides};
 ghost use Rattle.std.specs.Of.Vec.{vec-items, vec-len, vec-cap};
@@ -9,7 +9,7 @@ ghost use Rattle.std.specs.Vec.{made};
 ghost use Rattle.boards.specs.Limits.{heldLimit};
 ghost use Rattle.boards.specs.Faces.{Takes};
 ghost use Rattle.boards.specs.Tellings.{newest, Passed};
-ghost use Rattle.boards.specs.Layers.{layerOf, layerFace};
+ghost use Rattle.boards.specs.Layers.{layerOf, layerFace, due, LayerSound, LayerCleared, LayerTold, LayerCarried, LayerSettled};
 use crate::board::PriceBoard;
 use crate::states::Delay;
 use crate::tellings::Telling;
@@ -56,11 +56,35 @@ impl<B: PriceBoard> Delay<B> {
         ensures held { λ _. ⌜ vec-items (now (self .exit) .held) ≡ drop count (vec-items (now (self .entry) .held)) ⌝ }
         ensures below { λ _. ⌜ (B·PriceBoard .sound (now (self .entry) .below) → Passed (take count (vec-items (now (self .entry) .held))) (B·PriceBoard .face (now (self .entry) .below)) (B·PriceBoard .face (now (self .exit) .below))) ⌝ }
         ensures safe { λ _. ⌜ (B·PriceBoard .sound (now (self .entry) .below) → B·PriceBoard .sound (now (self .exit) .below)) ⌝ }
+        ensures emptied { λ _. ⌜ (vec-len (now (self .entry) .held) ≤ count → vec-items (now (self .exit) .held) ≡ []) ⌝ }
+        ensures whole { λ _. ⌜ (vec-len (now (self .entry) .held) ≤ count → B·PriceBoard .sound (now (self .entry) .below) → Passed (vec-items (now (self .entry) .held)) (B·PriceBoard .face (now (self .entry) .below)) (B·PriceBoard .face (now (self .exit) .below))) ⌝ }
     {
         let passing = count.min(self.held.len());
         tell_all(&mut self.below, &self.held[..passing]);
         drop_oldest(&mut self.held, passing);
     }
+
+    // Passes the oldest telling down where the layer is full.
+    fn make_room(&mut self)
+        ensures held { λ _. ⌜ vec-items (now (self .exit) .held) ≡ drop (due (vec-items (now (self .entry) .held))) (vec-items (now (self .entry) .held)) ⌝ }
+        ensures below { λ _. ⌜ (B·PriceBoard .sound (now (self .entry) .below) → Passed (take (due (vec-items (now (self .entry) .held))) (vec-items (now (self .entry) .held))) (B·PriceBoard .face (now (self .entry) .below)) (B·PriceBoard .face (now (self .exit) .below))) ⌝ }
+        ensures safe { λ _. ⌜ (B·PriceBoard .sound (now (self .entry) .below) → B·PriceBoard .sound (now (self .exit) .below)) ⌝ }
+        ensures kept { λ _. ⌜ (vec-len (now (self .entry) .held) < heldLimit → now (self .exit) .below ≡ now (self .entry) .below) ⌝ }
+        ensures room { λ _. ⌜ vec-len (now (self .exit) .held) < heldLimit ⌝ }
+    {
+        let passing = passing_for_one(self.held.len());
+        if passing > 0 {
+            self.pass(passing);
+        }
+    }
+}
+
+// How many tellings pass down before one more is held.
+fn passing_for_one(held: usize) -> usize
+    requires { ⌜ held ≤ heldLimit ⌝ }
+    ensures { λ r. ⌜ r ≡ held + 1 - heldLimit ⌝ }
+{
+    (held + 1).saturating_sub(HELD_LIMIT)
 }
 
 // Drops the first of a list, `count` of them, without giving room back.
@@ -73,4 +97,60 @@ fn drop_oldest(held: &mut Vec<Telling>, count: usize)
     let left = held.len() - count;
     held.rotate_left(count);
     held.truncate(left);
+}
+
+pub impl<B: PriceBoard> PriceBoard for Delay<B> as DelayIsBoard {
+    ghost face = { λ d. layerFace (layerOf (B·PriceBoard .face) d) };
+
+    ghost sound = { LayerSound (B·PriceBoard .face) (B·PriceBoard .sound) };
+
+    fn clear(&mut self, n: usize)
+        ensures exact { λ _. ⌜ LayerCleared n (layerOf (B·PriceBoard .face) (now (self .exit))) ⌝ }
+        ensures safe { λ _. ⌜ B·PriceBoard .sound (now (self .exit) .below) ⌝ }
+    {
+        self.held.clear();
+        self.below.clear(n);
+    }
+
+    // A telling that is taken is held as the newest.
+    fn tell(&mut self, seat: usize, x: u64)
+        ensures exact { λ _. ⌜ (B·PriceBoard .sound (now (self .entry) .below) → LayerTold (layerOf (B·PriceBoard .face) (now (self .entry))) (layerOf (B·PriceBoard .face) (now (self .exit))) seat x) ⌝ }
+        ensures kept { λ _. ⌜ (vec-len (now (self .entry) .held) < heldLimit → now (self .exit) .below ≡ now (self .entry) .below) ⌝ }
+        ensures safe { λ _. ⌜ (B·PriceBoard .sound (now (self .entry) .below) → B·PriceBoard .sound (now (self .exit) .below)) ⌝ }
+    {
+        if self.takes(seat, x) {
+            self.make_room();
+            self.held.push_reserved(Telling { seat, price: x });
+        }
+    }
+
+    fn size(&self) -> usize {
+        self.below.size()
+    }
+
+    fn shows(&self, run: usize, seat: usize) -> u64 {
+        self.below.shows(run, seat)
+    }
+
+    fn told(&self, seat: usize) -> u64 {
+        if seat < self.below.size() { self.latest(seat) } else { 0 }
+    }
+
+    // Passes the r oldest tellings down, or all if fewer, and carries r below.
+    fn carry(&mut self, r: usize)
+        ensures exact { λ _. ⌜ (B·PriceBoard .sound (now (self .entry) .below) → LayerCarried (layerOf (B·PriceBoard .face) (now (self .entry))) (layerOf (B·PriceBoard .face) (now (self .exit))) r) ⌝ }
+        ensures safe { λ _. ⌜ (B·PriceBoard .sound (now (self .entry) .below) → B·PriceBoard .sound (now (self .exit) .below)) ⌝ }
+    {
+        self.pass(r);
+        self.below.carry(r);
+    }
+
+    // Passes all tellings down, and settles the board below.
+    fn settle(&mut self)
+        ensures exact { λ _. ⌜ (B·PriceBoard .sound (now (self .entry) .below) → LayerSettled (layerOf (B·PriceBoard .face) (now (self .entry))) (layerOf (B·PriceBoard .face) (now (self .exit)))) ⌝ }
+        ensures safe { λ _. ⌜ (B·PriceBoard .sound (now (self .entry) .below) → B·PriceBoard .sound (now (self .exit) .below)) ⌝ }
+    {
+        self.pass(HELD_LIMIT);
+        self.below.settle();
+    }
 }
