@@ -3,3 +3,4 @@ pub mod Sites
 pub mod Faces
 pub mod Held
 pub mod Layers
+pub mod Rising

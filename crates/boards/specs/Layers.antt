@@ -8,7 +8,7 @@ use Rattle.boards.specs.declared.tellings.Telling.{Telling}
 use Rattle.boards.specs.declared.states.Delay.{Delay}
 use Rattle.boards.specs.Limits.{heldLimit}
 use Rattle.boards.specs.Faces.{Face, Cleared, Takes, Refuses, Carried, Settled, within}
-use Rattle.boards.specs.Tellings.{newest, Seated, Climbs, Passed}
+use Rattle.boards.specs.Tellings.{newest, Seated, Climbs, Passed, Rise, Above}
 
 -- the board below, and the tellings held back from it, the oldest first
 pub record Layer : Type 0 where
@@ -61,3 +61,8 @@ pub record LayerCarried (l m : Layer) (r : ℕ) : Type 0 where
 pub record LayerSettled (l m : Layer) : Type 0 where
   pub held : m .held ≡ []
   pub below : (f : Face) × Passed (l .held) (l .below) f × Settled f (m .below)
+
+-- in a steady layer the tellings held for a seat rise from oldest to newest, and none is below the told price below
+pub record Held-tellings-rise : Type 0 where
+  pub rise : (l : Layer) → Steady l → Rise (l .held)
+  pub above : (l : Layer) → Steady l → Above (l .held) (l .below .told)

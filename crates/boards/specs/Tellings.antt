@@ -35,3 +35,7 @@ tellingAt ts i = getD ts i (record { seat = 0; price = 0 })
 -- the tellings of each seat rise from oldest to newest: of two for one seat, the older is never higher
 abbrev pub Rise : List Telling → Type 0
 Rise ts = (i j : ℕ) → i < j → j < length ts → tellingAt ts i .seat ≡ tellingAt ts j .seat → tellingAt ts i .price ≤ tellingAt ts j .price
+
+-- no telling is below the price that p has for its seat
+abbrev pub Above : List Telling → (ℕ → ℕ) → Type 0
+Above ts p = (i : ℕ) → i < length ts → p (tellingAt ts i .seat) ≤ tellingAt ts i .price

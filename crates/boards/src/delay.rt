@@ -20,10 +20,11 @@ use std::alloc::Global;
 // The most tellings that a layer holds back.
 pub const HELD_LIMIT: usize = 64;
 
-impl<B: Drop> Delay<B> {
-    // A layer over a board, with nothing held.
+impl<B: PriceBoard + Drop> Delay<B> {
+    // A layer over a board, with nothing held; it is sound where the board below is.
     pub fn new(heap: Global, below: B) -> Result<Self, AllocError>
-        ensures { λ r. ⌜ made r (λ d. (d .below ≡ below) × (vec-items (d .held) ≡ [])) ⌝ }
+        ensures state { λ r. ⌜ made r (λ d. (d .below ≡ below) × (vec-items (d .held) ≡ [])) ⌝ }
+        ensures safe { λ r. ⌜ made r (λ d. B·PriceBoard .sound below → LayerSound (B·PriceBoard .face) (B·PriceBoard .sound) d) ⌝ }
     {
         let held = Vec::with_capacity(heap, HELD_LIMIT)?;
         Ok(Delay { below, held })

@@ -7,3 +7,4 @@ pub mod rows;
 pub mod site;
 pub mod states;
 pub mod tellings;
+pub mod theorems;
