@@ -4,3 +4,5 @@ pub mod Faces
 pub mod Held
 pub mod Layers
 pub mod Rising
+pub mod Models
+pub mod Worked

@@ -6,3 +6,4 @@ pub mod Commons
 pub mod Sites
 pub mod Tellings
 pub mod Layers
+pub mod Cases

@@ -1,0 +1,50 @@
+-- The worked cases hold: each computes in the models.
+use mathlib.Core.Path.{_≡_, refl, ap, _∙_}
+use mathlib.Core.List.{List, [], _∷_, _++_}
+use Prim.Native.Nat.{ℕ, _<_}
+use lib.Dec.{lit<}
+use lib.ListN.{length}
+use Rattle.boards.specs.Faces.{Face}
+use Rattle.boards.specs.Layers.{Layer, layerFace}
+use Rattle.boards.specs.Cases.{Call, tell, carry, settle, Run, SiteDoes, LayerDoes, told-once, told-twice, told-rising, Worked-cases-hold}
+use Rattle.boards.proofs.Models.{layerRun, modelOf, own, site-shown, own-agrees, layer-after}
+
+infixr 20 _also_
+
+_also_ : {A B : Type 0} → A → B → A × B
+a also b = (a, b)
+
+told : (cs : List Call) (k : ℕ) (l m : Layer) → Run LayerDoes cs l m → layerFace m .told k ≡ own (layerRun cs (modelOf l)) k
+told cs k l m run = own-agrees m (layerRun cs (modelOf l)) (layer-after cs l m run) k
+
+below : (cs : List Call) (k : ℕ) (l m : Layer) → Run LayerDoes cs l m → m .below .told k ≡ layerRun cs (modelOf l) .told k
+below cs k l m run = layer-after cs l m run .below .told k
+
+holds : (cs : List Call) (l m : Layer) → Run LayerDoes cs l m → length (m .held) ≡ length (layerRun cs (modelOf l) .held)
+holds cs l m run = ap length (layer-after cs l m run .held)
+
+pub worked : Worked-cases-hold
+worked =
+  let carried : List Call = told-once ++ carry 8 ∷ [] in
+  let settled : List Call = told-once ++ carry 8 ∷ settle ∷ [] in
+  let between : List Call = told-twice ++ tell 0 7 ∷ [] in
+  (λ f g run. site-shown told-once 0 1 f g run (lit< tt) (lit< tt)) also
+  (λ f g run. site-shown told-once 9 1 f g run (lit< tt) (lit< tt)) also
+  (λ f g run. site-shown carried 0 1 f g run (lit< tt) (lit< tt)) also
+  (λ f g run. site-shown carried 8 1 f g run (lit< tt) (lit< tt)) also
+  (λ f g run. site-shown carried 1 1 f g run (lit< tt) (lit< tt)) also
+  (λ f g run. site-shown carried 9 1 f g run (lit< tt) (lit< tt)) also
+  (λ f g run. site-shown settled 9 1 f g run (lit< tt) (lit< tt)) also
+  holds (told-rising 64) also
+  told (told-rising 64) 0 also
+  below (told-rising 64) 0 also
+  holds (told-rising 65) also
+  told (told-rising 65) 0 also
+  below (told-rising 65) 0 also
+  below told-twice 0 also
+  told told-twice 0 also
+  told between 0 also
+  holds between also
+  below (told-twice ++ tell 0 7 ∷ settle ∷ []) 0 also
+  holds (told-twice ++ tell 0 9 ∷ []) also
+  tt

@@ -1,0 +1,96 @@
+-- Worked cases: calls on a board, and what it then answers.
+use mathlib.Core.Path.{_≡_}
+use mathlib.Core.List.{List, [], _∷_, _++_}
+use Prim.Native.Nat.{ℕ, zero, suc}
+use lib.ListN.{length}
+use Rattle.boards.specs.Faces.{Face, Cleared, Settled}
+use Rattle.boards.specs.Sites.{SiteTold, SiteCarried}
+use Rattle.boards.specs.Layers.{Layer, layerFace, LayerCleared, LayerTold, LayerCarried, LayerSettled}
+
+-- a call that changes a board
+pub data Call : Type 0 where
+  clear : ℕ → Call
+  tell : ℕ → ℕ → Call
+  carry : ℕ → Call
+  settle : Call
+
+-- what a call does to a site board
+abbrev pub SiteDoes : Call → Face → Face → Type 0
+SiteDoes (clear n) f g = Cleared n g
+SiteDoes (tell k x) f g = SiteTold f g k x
+SiteDoes (carry r) f g = SiteCarried f g r
+SiteDoes settle f g = Settled f g
+
+-- what a call does to a delay layer over any board
+abbrev pub LayerDoes : Call → Layer → Layer → Type 0
+LayerDoes (clear n) l m = LayerCleared n m
+LayerDoes (tell k x) l m = LayerTold l m k x
+LayerDoes (carry r) l m = LayerCarried l m r
+LayerDoes settle l m = LayerSettled l m
+
+-- a became b by calls, one after another
+abbrev pub Run : {S : Type 0} → (Call → S → S → Type 0) → List Call → S → S → Type 0
+Run Does [] a b = a ≡ b
+Run {S} Does (c ∷ cs) a b = (m : S) × Does c a m × Run Does cs m b
+
+-- calls, and one answer after them: a site board's shown price to a run at a seat; a delay layer's told price of a seat,
+-- the told price of a seat on the board below it, and how many tellings it holds
+pub data Case : Type 0 where
+  site-shows : List Call → ℕ → ℕ → ℕ → Case
+  layer-told : List Call → ℕ → ℕ → Case
+  below-told : List Call → ℕ → ℕ → Case
+  layer-holds : List Call → ℕ → Case
+
+-- every run of the calls leads to the answer
+abbrev pub Holds : Case → Type 0
+Holds (site-shows cs i k x) = (f g : Face) → Run SiteDoes cs f g → g .shown i k ≡ x
+Holds (layer-told cs k x) = (l m : Layer) → Run LayerDoes cs l m → layerFace m .told k ≡ x
+Holds (below-told cs k x) = (l m : Layer) → Run LayerDoes cs l m → m .below .told k ≡ x
+Holds (layer-holds cs n) = (l m : Layer) → Run LayerDoes cs l m → length (m .held) ≡ n
+
+abbrev pub AllHold : List Case → Type 0
+AllHold [] = Unit {0}
+AllHold (c ∷ cs) = Holds c × AllHold cs
+
+-- ten seats, and the price 7 told at seat 1
+abbrev pub told-once : List Call
+told-once = clear 10 ∷ tell 1 7 ∷ []
+
+-- two seats, and the prices 1 to n told at seat 0
+abbrev pub told-rising : ℕ → List Call
+told-rising zero = clear 2 ∷ []
+told-rising (suc n) = told-rising n ++ tell 0 (suc n) ∷ []
+
+-- two seats, and at seat 0 the price 5 passed down and the price 9 held
+abbrev pub told-twice : List Call
+told-twice = clear 2 ∷ tell 0 5 ∷ carry 1 ∷ tell 0 9 ∷ []
+
+abbrev pub cases : List Case
+cases =
+  -- a site board: a tell reaches no run, a carry those of one site, a settle all
+  site-shows told-once 0 1 0 ∷
+  site-shows told-once 9 1 0 ∷
+  site-shows (told-once ++ carry 8 ∷ []) 0 1 7 ∷
+  site-shows (told-once ++ carry 8 ∷ []) 8 1 7 ∷
+  site-shows (told-once ++ carry 8 ∷ []) 1 1 0 ∷
+  site-shows (told-once ++ carry 8 ∷ []) 9 1 0 ∷
+  site-shows (told-once ++ carry 8 ∷ settle ∷ []) 9 1 7 ∷
+  -- a delay layer: the 65th telling passes the oldest down
+  layer-holds (told-rising 64) 64 ∷
+  layer-told (told-rising 64) 0 64 ∷
+  below-told (told-rising 64) 0 0 ∷
+  layer-holds (told-rising 65) 64 ∷
+  layer-told (told-rising 65) 0 65 ∷
+  below-told (told-rising 65) 0 1 ∷
+  -- a telling between the board below and the layer's own told price is refused by the layer; an equal one is not
+  below-told told-twice 0 5 ∷
+  layer-told told-twice 0 9 ∷
+  layer-told (told-twice ++ tell 0 7 ∷ []) 0 9 ∷
+  layer-holds (told-twice ++ tell 0 7 ∷ []) 1 ∷
+  below-told (told-twice ++ tell 0 7 ∷ settle ∷ []) 0 9 ∷
+  layer-holds (told-twice ++ tell 0 9 ∷ []) 2 ∷
+  []
+
+-- all of the worked cases hold
+abbrev pub Worked-cases-hold : Type 0
+Worked-cases-hold = AllHold cases
