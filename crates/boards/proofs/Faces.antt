@@ -19,9 +19,9 @@ told-is f g seat x told takes k = ⊎-elim
 pub cases-takes : (f : Face) (seat x : ℕ) → Takes f seat x ⊎ Refuses f seat x
 cases-takes f seat x = ⊎-elim
     (λ (h : seat < f .size). ⊎-elim
-      (λ (l : x < f .told seat). inr (inr l))
-      (λ (l : f .told seat ≤ x). inl (h, l))
-      (cases-lt x (f .told seat)))
+    (λ (l : x < f .told seat). inr (inr l))
+    (λ (l : f .told seat ≤ x). inl (h, l))
+    (cases-lt x (f .told seat)))
     (λ (h : f .size ≤ seat). inr (inl h))
     (cases-lt seat (f .size))
 
@@ -37,5 +37,5 @@ told-nothing f seat x not = record {
   size = refl;
   raised = λ t. absurd (not t);
   others = λ t. absurd (not t);
-  refused = λ _. (record { size = refl; told = λ k. refl }, λ i k. refl)
+  refused = λ _. (record { size = refl; told = λ k. refl }, λ i k. refl);
 }

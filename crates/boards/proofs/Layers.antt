@@ -29,14 +29,14 @@ moved [] us f g s p = subst (λ (e : Face). Moved us us f e) p (record { size = 
 moved (t ∷ ts) us f g s (m, told, rest) =
     let after : (k : ℕ) → m .told k ≡ cond (eqb k (t .seat)) (t .price) (f .told k) = told-is f m (t .seat) (t .price) told (s .seated .0, s .climbs (t .seat) .0 refl) in
     let steady : Steady (record { below = m; held = ts ++ us }) = record {
-          seated = subst (λ (n : ℕ). Seated n (ts ++ us)) (sym (told .size)) (s .seated .1);
-          climbs = λ k. subst (λ (x : ℕ). Climbs (ts ++ us) k x) (sym (after k)) (s .climbs k .1)
-        } in
+      seated = subst (λ (n : ℕ). Seated n (ts ++ us)) (sym (told .size)) (s .seated .1);
+      climbs = λ k. subst (λ (x : ℕ). Climbs (ts ++ us) k x) (sym (after k)) (s .climbs k .1);
+    } in
     let later : Moved (ts ++ us) us m g = moved ts us m g steady rest in
     record {
       size = later .size ∙ told .size;
       steady = later .steady;
-      newest = λ k. later .newest k ∙ ap (λ (x : ℕ). newest (ts ++ us) k x) (after k)
+      newest = λ k. later .newest k ∙ ap (λ (x : ℕ). newest (ts ++ us) k x) (after k);
     }
 
 -- so it is for the first n of the tellings held
@@ -45,13 +45,13 @@ moved-first n l g s p =
     let ts : List Telling = l .held in
     let whole : take n ts ++ drop n ts ≡ ts = take-append-drop n ts in
     subst (λ (us : List Telling). Moved us (drop n ts) (l .below) g) whole
-      (moved (take n ts) (drop n ts) (l .below) g (subst (λ (us : List Telling). Steady (record { below = l .below; held = us })) (sym whole) s) p)
+    (moved (take n ts) (drop n ts) (l .below) g (subst (λ (us : List Telling). Steady (record { below = l .below; held = us })) (sym whole) s) p)
 
 -- the same tellings over a board below with the same told prices
 pub steady-same : (ts : List Telling) (f g : Face) → SameTold f g → Steady (record { below = f; held = ts }) → Steady (record { below = g; held = ts })
 steady-same ts f g same s = record {
   seated = subst (λ (n : ℕ). Seated n ts) (sym (same .size)) (s .seated);
-  climbs = λ k. subst (λ (x : ℕ). Climbs ts k x) (sym (same .told k)) (s .climbs k)
+  climbs = λ k. subst (λ (x : ℕ). Climbs ts k x) (sym (same .told k)) (s .climbs k);
 }
 
 -- a layer's told price, by parts that are equal
@@ -62,7 +62,7 @@ told-same n m k x y p q = ap (λ (j : ℕ). within j k x) p ∙ ap (λ (z : ℕ)
 pub moved-same : (l : Layer) (left : List Telling) (g h : Face) → Moved (l .held) left (l .below) g → SameTold g h → SameTold (layerFace l) (layerFace (record { below = h; held = left }))
 moved-same l left g h mv same = record {
   size = same .size ∙ mv .size;
-  told = λ k. told-same (h .size) (l .below .size) k (newest left k (h .told k)) (newest (l .held) k (l .below .told k)) (same .size ∙ mv .size) (ap (λ (x : ℕ). newest left k x) (same .told k) ∙ mv .newest k)
+  told = λ k. told-same (h .size) (l .below .size) k (newest left k (h .told k)) (newest (l .held) k (l .below .told k)) (same .size ∙ mv .size) (ap (λ (x : ℕ). newest left k x) (same .told k) ∙ mv .newest k);
 }
 
 abbrev Stands : Layer → Layer → Type 0
@@ -73,7 +73,7 @@ carried-layer l m r s did =
     let f : Face = did .below .0 in
     let mv : Moved (l .held) (drop r (l .held)) (l .below) f = moved-first r l f s (did .below .1) in
     subst (λ (ts : List Telling). Stands l (record { below = m .below; held = ts })) (sym (did .held))
-      (moved-same l (drop r (l .held)) f (m .below) mv (did .below .2), steady-same (drop r (l .held)) f (m .below) (did .below .2) (mv .steady))
+    (moved-same l (drop r (l .held)) f (m .below) mv (did .below .2), steady-same (drop r (l .held)) f (m .below) (did .below .2) (mv .steady))
 
 pub settled-layer : (l m : Layer) → Steady l → LayerSettled l m → Settled (layerFace l) (layerFace m) × Steady m
 settled-layer l m s did =
@@ -81,58 +81,61 @@ settled-layer l m s did =
     let same : SameTold f (m .below) = did .below .2 .same in
     let whole : l .held ++ [] ≡ l .held = append-nil (l .held) in
     let mv : Moved (l .held) [] (l .below) f =
-          subst (λ (ts : List Telling). Moved ts [] (l .below) f) whole
-            (moved (l .held) [] (l .below) f (subst (λ (ts : List Telling). Steady (record { below = l .below; held = ts })) (sym whole) s) (did .below .1)) in
+    subst (λ (ts : List Telling). Moved ts [] (l .below) f) whole
+    (moved (l .held) [] (l .below) f (subst (λ (ts : List Telling). Steady (record { below = l .below; held = ts })) (sym whole) s) (did .below .1)) in
     let stands : Stands l m =
-          subst (λ (ts : List Telling). Stands l (record { below = m .below; held = ts })) (sym (did .held))
-            (moved-same l [] f (m .below) mv same, steady-same [] f (m .below) same (mv .steady)) in
-    (record {
-       same = stands .0;
-       level = λ i k h h′. did .below .2 .level i k h h′ ∙ sym (inside (m .below .size) k (m .below .told k) h′) ∙ ap (λ (ts : List Telling). within (m .below .size) k (newest ts k (m .below .told k))) (sym (did .held))
-     },
-     stands .1)
+    subst (λ (ts : List Telling). Stands l (record { below = m .below; held = ts })) (sym (did .held))
+    (moved-same l [] f (m .below) mv same, steady-same [] f (m .below) same (mv .steady)) in (
+      record {
+        same = stands .0;
+        level = λ i k h h′. did .below .2 .level i k h h′ ∙ sym (inside (m .below .size) k (m .below .told k) h′) ∙ ap (λ (ts : List Telling). within (m .below .size) k (newest ts k (m .below .told k))) (sym (did .held));
+      },
+      stands .1,
+    )
 
 pub cleared-layer : (n : ℕ) (l : Layer) → LayerCleared n l → Cleared n (layerFace l) × Steady l
-cleared-layer n l did =
-    (record {
-       sized = did .below .sized;
-       emptied = did .below .emptied;
-       untold = λ k. ap (λ (ts : List Telling). within (l .below .size) k (newest ts k (l .below .told k))) (did .held) ∙ ap (λ (x : ℕ). within (l .below .size) k x) (did .below .untold k) ∙ within-zero (l .below .size) k;
-       unshown = did .below .unshown
-     },
-     subst (λ (ts : List Telling). Steady (record { below = l .below; held = ts })) (sym (did .held)) (record { seated = tt; climbs = λ k. tt }))
+cleared-layer n l did = (
+  record {
+    sized = did .below .sized;
+    emptied = did .below .emptied;
+    untold = λ k. ap (λ (ts : List Telling). within (l .below .size) k (newest ts k (l .below .told k))) (did .held) ∙ ap (λ (x : ℕ). within (l .below .size) k x) (did .below .untold k) ∙ within-zero (l .below .size) k;
+    unshown = did .below .unshown;
+  },
+  subst (λ (ts : List Telling). Steady (record { below = l .below; held = ts })) (sym (did .held)) (record { seated = tt; climbs = λ k. tt }),
+)
 
 -- a telling that is taken: the first n pass down, and one more is held
 pub taken-layer : (n : ℕ) (l : Layer) (g : Face) (t : Telling) → Steady l → Takes (layerFace l) (t .seat) (t .price) → Passed (take n (l .held)) (l .below) g
-  → Told (layerFace l) (layerFace (record { below = g; held = drop n (l .held) ++ (t ∷ []) })) (t .seat) (t .price) × Steady (record { below = g; held = drop n (l .held) ++ (t ∷ []) })
+    → Told (layerFace l) (layerFace (record { below = g; held = drop n (l .held) ++ (t ∷ []) })) (t .seat) (t .price) × Steady (record { below = g; held = drop n (l .held) ++ (t ∷ []) })
 taken-layer n l g t s takes passed =
     let f : Face = l .below in
     let us : List Telling = drop n (l .held) in
     let mv : Moved (l .held) us f g = moved-first n l g s passed in
     let newer : (k : ℕ) → newest (us ++ (t ∷ [])) k (g .told k) ≡ cond (eqb k (t .seat)) (t .price) (newest (l .held) k (f .told k)) =
-          λ k. newest-push us t k (g .told k) ∙ ap (λ (x : ℕ). cond (eqb k (t .seat)) (t .price) x) (mv .newest k) in
+    λ k. newest-push us t k (g .told k) ∙ ap (λ (x : ℕ). cond (eqb k (t .seat)) (t .price) x) (mv .newest k) in
     let seat-in : t .seat < g .size = subst (λ (m : ℕ). t .seat < m) (sym (mv .size)) (takes .0) in
     let high : newest us (t .seat) (g .told (t .seat)) ≤ t .price =
-          subst (λ (x : ℕ). x ≤ t .price) (inside (f .size) (t .seat) (newest (l .held) (t .seat) (f .told (t .seat))) (takes .0) ∙ sym (mv .newest (t .seat))) (takes .1) in
-    (record {
-       size = mv .size;
-       raised = λ _. inside (g .size) (t .seat) _ seat-in ∙ newer (t .seat) ∙ cond-true (eqb (t .seat) (t .seat)) (t .price) _ (eq-eqb (t .seat) (t .seat) refl);
-       others = λ _ k ne. told-same (g .size) (f .size) k _ _ (mv .size) (newer k ∙ cond-false (eqb k (t .seat)) (t .price) _ (ne-eqb k (t .seat) ne));
-       refused = λ why. absurd (not-both (layerFace l) (t .seat) (t .price) takes why)
-     },
-     record {
-       seated = seated-push us t (g .size) (mv .steady .seated) seat-in;
-       climbs = λ k. climbs-push us t k (g .told k) (mv .steady .climbs k) (λ e. subst (λ (j : ℕ). newest us j (g .told j) ≤ t .price) (sym e) high)
-     })
+    subst (λ (x : ℕ). x ≤ t .price) (inside (f .size) (t .seat) (newest (l .held) (t .seat) (f .told (t .seat))) (takes .0) ∙ sym (mv .newest (t .seat))) (takes .1) in (
+      record {
+        size = mv .size;
+        raised = λ _. inside (g .size) (t .seat) _ seat-in ∙ newer (t .seat) ∙ cond-true (eqb (t .seat) (t .seat)) (t .price) _ (eq-eqb (t .seat) (t .seat) refl);
+        others = λ _ k ne. told-same (g .size) (f .size) k _ _ (mv .size) (newer k ∙ cond-false (eqb k (t .seat)) (t .price) _ (ne-eqb k (t .seat) ne));
+        refused = λ why. absurd (not-both (layerFace l) (t .seat) (t .price) takes why);
+      },
+      record {
+        seated = seated-push us t (g .size) (mv .steady .seated) seat-in;
+        climbs = λ k. climbs-push us t k (g .told k) (mv .steady .climbs k) (λ e. subst (λ (j : ℕ). newest us j (g .told j) ≤ t .price) (sym e) high);
+      },
+    )
 
 pub told-layer : (l m : Layer) (seat x : ℕ) → Steady l → LayerTold l m seat x → Told (layerFace l) (layerFace m) seat x × Steady m
 told-layer l m seat x s did = ⊎-elim
     (λ (takes : Takes (layerFace l) seat x).
-      subst (λ (ts : List Telling). Told (layerFace l) (layerFace (record { below = m .below; held = ts })) seat x × Steady (record { below = m .below; held = ts })) (sym (did .held takes))
-        (taken-layer (due (l .held)) l (m .below) (record { seat = seat; price = x }) s takes (did .below takes)))
+    subst (λ (ts : List Telling). Told (layerFace l) (layerFace (record { below = m .below; held = ts })) seat x × Steady (record { below = m .below; held = ts })) (sym (did .held takes))
+    (taken-layer (due (l .held)) l (m .below) (record { seat = seat; price = x }) s takes (did .below takes)))
     (λ (why : Refuses (layerFace l) seat x).
-      subst (λ (n : Layer). Told (layerFace l) (layerFace n) seat x × Steady n) (sym (did .refused why))
-        (told-nothing (layerFace l) seat x (λ takes. not-both (layerFace l) seat x takes why), s))
+    subst (λ (n : Layer). Told (layerFace l) (layerFace n) seat x × Steady n) (sym (did .refused why))
+    (told-nothing (layerFace l) seat x (λ takes. not-both (layerFace l) seat x takes why), s))
     (cases-takes (layerFace l) seat x)
 
 -- what is shown below the layer is at most the layer's told price

@@ -72,20 +72,20 @@ site-step (clear n) f e g a did = record { size = size-after n g did; told = did
 site-step (tell k x) f e g a did = record {
   size = did .told .size ∙ a .size;
   told = told-after f g (e .size) (e .told) k x (a .size) (a .told) (did .told);
-  shown = λ i j h l. did .shown i j ∙ a .shown i j (omega (arith, did .told .size)) (omega (arith, did .told .size))
+  shown = λ i j h l. did .shown i j ∙ a .shown i j (omega (arith, did .told .size)) (omega (arith, did .told .size));
 }
 site-step (carry r) f e g a did = record {
   size = did .carried .size ∙ a .size;
   told = λ k. did .carried .told k ∙ a .told k;
   shown = λ i k h l. ⊎-elim
-    (λ (same : i % siteCount ≡ r % siteCount). did .reached i k (omega (arith, did .carried .size)) same ∙ a .told k ∙ sym (cond-true (eqb (i % siteCount) (r % siteCount)) (e .told k) (e .shown i k) (eq-eqb (i % siteCount) (r % siteCount) same)))
-    (λ (other : i % siteCount ≡ r % siteCount → ⊥). did .others i k other ∙ a .shown i k (omega (arith, did .carried .size)) (omega (arith, did .carried .size)) ∙ sym (cond-false (eqb (i % siteCount) (r % siteCount)) (e .told k) (e .shown i k) (ne-eqb (i % siteCount) (r % siteCount) other)))
-    (cases-eq (i % siteCount) (r % siteCount))
+      (λ (same : i % siteCount ≡ r % siteCount). did .reached i k (omega (arith, did .carried .size)) same ∙ a .told k ∙ sym (cond-true (eqb (i % siteCount) (r % siteCount)) (e .told k) (e .shown i k) (eq-eqb (i % siteCount) (r % siteCount) same)))
+      (λ (other : i % siteCount ≡ r % siteCount → ⊥). did .others i k other ∙ a .shown i k (omega (arith, did .carried .size)) (omega (arith, did .carried .size)) ∙ sym (cond-false (eqb (i % siteCount) (r % siteCount)) (e .told k) (e .shown i k) (ne-eqb (i % siteCount) (r % siteCount) other)))
+      (cases-eq (i % siteCount) (r % siteCount));
 }
 site-step settle f e g a did = record {
   size = did .same .size ∙ a .size;
   told = λ k. did .same .told k ∙ a .told k;
-  shown = λ i k h l. did .level i k h l ∙ did .same .told k ∙ a .told k
+  shown = λ i k h l. did .level i k h l ∙ did .same .told k ∙ a .told k;
 }
 
 pub site-run : (cs : List Call) (f e g : Face) → SiteAgrees f e → Run SiteDoes cs f g → SiteAgrees g (siteRun cs e)
@@ -147,8 +147,8 @@ pub passed-agrees : (ts : List Telling) (f g : Face) (n : ℕ) (p : ℕ → ℕ)
 passed-agrees [] f g n p a is = subst (λ (h : Face). BelowAgrees h n p) is a
 passed-agrees (t ∷ ts) f g n p a (m, told, rest) =
     passed-agrees ts m g n (toldAfter n p (t .seat) (t .price))
-      (record { size = told .size ∙ a .size; told = told-after f m n p (t .seat) (t .price) (a .size) (a .told) told })
-      rest
+    (record { size = told .size ∙ a .size; told = told-after f m n p (t .seat) (t .price) (a .size) (a .told) told })
+    rest
 
 pub own-agrees : (l : Layer) (s : Model) → LayerAgrees l s → (k : ℕ) → layerFace l .told k ≡ own s k
 own-agrees l s a k =
@@ -166,26 +166,26 @@ layer-step (tell k x) l m s a did =
     let t : Telling = record { seat = k; price = x } in
     let taken : Model = hold t (passDown (due (s .held)) s) in
     ⊎-elim
-      (λ (takes : Takes (layerFace l) k x).
-        let is : takes? (s .size) (own s) k x ≡ true = takes-true (layerFace l) (s .size) (own s) k x (a .below .size) (own-agrees l s a k) takes in
-        subst (λ (u : Model). LayerAgrees m u) (sym (cond-true (takes? (s .size) (own s) k x) taken s is))
-          (record {
-             below = passed-held (due (s .held)) l s (m .below) a (subst (λ (ts : List Telling). Passed (take (due ts) (l .held)) (l .below) (m .below)) (a .held) (did .below takes));
-             held = did .held takes ∙ ap (λ (ts : List Telling). drop (due ts) ts ++ (t ∷ [])) (a .held)
-           }))
-      (λ (why : Refuses (layerFace l) k x).
-        let is : takes? (s .size) (own s) k x ≡ false = takes-false (layerFace l) (s .size) (own s) k x (a .below .size) (own-agrees l s a k) why in
-        subst (λ (u : Model). LayerAgrees m u) (sym (cond-false (takes? (s .size) (own s) k x) taken s is))
-          (subst (λ (n : Layer). LayerAgrees n s) (sym (did .refused why)) a))
-      (cases-takes (layerFace l) k x)
+    (λ (takes : Takes (layerFace l) k x).
+    let is : takes? (s .size) (own s) k x ≡ true = takes-true (layerFace l) (s .size) (own s) k x (a .below .size) (own-agrees l s a k) takes in
+    subst (λ (u : Model). LayerAgrees m u) (sym (cond-true (takes? (s .size) (own s) k x) taken s is))
+    (record {
+      below = passed-held (due (s .held)) l s (m .below) a (subst (λ (ts : List Telling). Passed (take (due ts) (l .held)) (l .below) (m .below)) (a .held) (did .below takes));
+      held = did .held takes ∙ ap (λ (ts : List Telling). drop (due ts) ts ++ (t ∷ [])) (a .held);
+    }))
+    (λ (why : Refuses (layerFace l) k x).
+    let is : takes? (s .size) (own s) k x ≡ false = takes-false (layerFace l) (s .size) (own s) k x (a .below .size) (own-agrees l s a k) why in
+    subst (λ (u : Model). LayerAgrees m u) (sym (cond-false (takes? (s .size) (own s) k x) taken s is))
+    (subst (λ (n : Layer). LayerAgrees n s) (sym (did .refused why)) a))
+    (cases-takes (layerFace l) k x)
 layer-step (carry r) l m s a did = record {
   below = same-agrees (did .below .0) (m .below) (s .size) (passDown r s .told) (did .below .2) (passed-held r l s (did .below .0) a (did .below .1));
-  held = did .held ∙ ap (λ (ts : List Telling). drop r ts) (a .held)
+  held = did .held ∙ ap (λ (ts : List Telling). drop r ts) (a .held);
 }
 layer-step settle l m s a did = record {
   below = same-agrees (did .below .0) (m .below) (s .size) (toldAfterAll (s .size) (s .held) (s .told)) (did .below .2 .same)
-    (passed-agrees (s .held) (l .below) (did .below .0) (s .size) (s .told) (a .below) (subst (λ (ts : List Telling). Passed ts (l .below) (did .below .0)) (a .held) (did .below .1)));
-  held = did .held
+      (passed-agrees (s .held) (l .below) (did .below .0) (s .size) (s .told) (a .below) (subst (λ (ts : List Telling). Passed ts (l .below) (did .below .0)) (a .held) (did .below .1)));
+  held = did .held;
 }
 
 pub layer-run : (cs : List Call) (l m : Layer) (s : Model) → LayerAgrees l s → Run LayerDoes cs l m → LayerAgrees m (layerRun cs s)

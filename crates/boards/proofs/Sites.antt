@@ -25,9 +25,10 @@ Done R old now c = ((j : ℕ) → j < c → R (copyAt old j) (copyAt now j)) × 
 
 -- and so does the copy at c
 pub done-more : (R : SiteCopy → SiteCopy → Type 0) (old now : List SiteCopy) (c : ℕ) (d : SiteCopy) → c < length old → Done R old now c → R (copyAt now c) d → Done R old (set now c d) (c + 1)
-done-more R old now c d h done r =
-    (below-more (λ j. R (copyAt old j) (copyAt (set now c d) j)) c
+done-more R old now c d h done r = (
+  below-more (λ j. R (copyAt old j) (copyAt (set now c d) j)) c
       (λ j l. let ne : j ≢ c = omega arith in subst (λ (x : SiteCopy). R (copyAt old j) x) (sym (other-copy now c j d ne)) (done .0 j l))
       (subst (λ (x : SiteCopy). R (copyAt old c) x) (sym (same-copy now c d (omega (arith, done .2)))) (subst (λ (x : SiteCopy). R x d) (done .1 c (omega arith)) r)),
-     λ j l. let ne : j ≢ c = omega arith in other-copy now c j d ne ∙ done .1 j (omega arith),
-     length-set now c d ∙ done .2)
+  λ j l. let ne : j ≢ c = omega arith in other-copy now c j d ne ∙ done .1 j (omega arith),
+  length-set now c d ∙ done .2,
+)

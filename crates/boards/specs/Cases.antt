@@ -3,7 +3,7 @@ use mathlib.Core.Path.{_≡_}
 use mathlib.Core.List.{List, [], _∷_, _++_}
 use Prim.Native.Nat.{ℕ, zero, suc}
 use lib.ListN.{length}
-use Rattle.boards.specs.Faces.{Face, Cleared, Settled}
+use Rattle.boards.specs.Faces.{Face, Cleared, Takes, Refuses, Settled}
 use Rattle.boards.specs.Sites.{SiteTold, SiteCarried}
 use Rattle.boards.specs.Layers.{Layer, layerFace, LayerCleared, LayerTold, LayerCarried, LayerSettled}
 
@@ -33,20 +33,25 @@ abbrev pub Run : {S : Type 0} → (Call → S → S → Type 0) → List Call �
 Run Does [] a b = a ≡ b
 Run {S} Does (c ∷ cs) a b = (m : S) × Does c a m × Run Does cs m b
 
--- calls, and one answer after them: a site board's shown price to a run at a seat; a delay layer's told price of a seat,
--- the told price of a seat on the board below it, and how many tellings it holds
+-- calls, and what holds after them: a site board's shown price to a run at a seat; a delay layer's told price of a seat,
+-- the told price of a seat on the board below it, how many tellings it holds, that it refuses a telling, and that the
+-- board below would take one
 pub data Case : Type 0 where
   site-shows : List Call → ℕ → ℕ → ℕ → Case
   layer-told : List Call → ℕ → ℕ → Case
   below-told : List Call → ℕ → ℕ → Case
   layer-holds : List Call → ℕ → Case
+  layer-refuses : List Call → ℕ → ℕ → Case
+  below-takes : List Call → ℕ → ℕ → Case
 
--- every run of the calls leads to the answer
+-- every run of the calls leads there
 abbrev pub Holds : Case → Type 0
 Holds (site-shows cs i k x) = (f g : Face) → Run SiteDoes cs f g → g .shown i k ≡ x
 Holds (layer-told cs k x) = (l m : Layer) → Run LayerDoes cs l m → layerFace m .told k ≡ x
 Holds (below-told cs k x) = (l m : Layer) → Run LayerDoes cs l m → m .below .told k ≡ x
 Holds (layer-holds cs n) = (l m : Layer) → Run LayerDoes cs l m → length (m .held) ≡ n
+Holds (layer-refuses cs k x) = (l m : Layer) → Run LayerDoes cs l m → Refuses (layerFace m) k x
+Holds (below-takes cs k x) = (l m : Layer) → Run LayerDoes cs l m → Takes (m .below) k x
 
 abbrev pub AllHold : List Case → Type 0
 AllHold [] = Unit {0}
@@ -67,29 +72,31 @@ told-twice = clear 2 ∷ tell 0 5 ∷ carry 1 ∷ tell 0 9 ∷ []
 
 abbrev pub cases : List Case
 cases =
-  -- a site board: a tell reaches no run, a carry those of one site, a settle all
-  site-shows told-once 0 1 0 ∷
-  site-shows told-once 9 1 0 ∷
-  site-shows (told-once ++ carry 8 ∷ []) 0 1 7 ∷
-  site-shows (told-once ++ carry 8 ∷ []) 8 1 7 ∷
-  site-shows (told-once ++ carry 8 ∷ []) 1 1 0 ∷
-  site-shows (told-once ++ carry 8 ∷ []) 9 1 0 ∷
-  site-shows (told-once ++ carry 8 ∷ settle ∷ []) 9 1 7 ∷
-  -- a delay layer: the 65th telling passes the oldest down
-  layer-holds (told-rising 64) 64 ∷
-  layer-told (told-rising 64) 0 64 ∷
-  below-told (told-rising 64) 0 0 ∷
-  layer-holds (told-rising 65) 64 ∷
-  layer-told (told-rising 65) 0 65 ∷
-  below-told (told-rising 65) 0 1 ∷
-  -- a telling between the board below and the layer's own told price is refused by the layer; an equal one is not
-  below-told told-twice 0 5 ∷
-  layer-told told-twice 0 9 ∷
-  layer-told (told-twice ++ tell 0 7 ∷ []) 0 9 ∷
-  layer-holds (told-twice ++ tell 0 7 ∷ []) 1 ∷
-  below-told (told-twice ++ tell 0 7 ∷ settle ∷ []) 0 9 ∷
-  layer-holds (told-twice ++ tell 0 9 ∷ []) 2 ∷
-  []
+    -- a site board: a tell reaches no run, a carry those of one site, a settle all
+    site-shows told-once 0 1 0 ∷
+    site-shows told-once 9 1 0 ∷
+    site-shows (told-once ++ carry 8 ∷ []) 0 1 7 ∷
+    site-shows (told-once ++ carry 8 ∷ []) 8 1 7 ∷
+    site-shows (told-once ++ carry 8 ∷ []) 1 1 0 ∷
+    site-shows (told-once ++ carry 8 ∷ []) 9 1 0 ∷
+    site-shows (told-once ++ carry 8 ∷ settle ∷ []) 9 1 7 ∷
+    -- a delay layer: the 65th telling passes the oldest down
+    layer-holds (told-rising 64) 64 ∷
+    layer-told (told-rising 64) 0 64 ∷
+    below-told (told-rising 64) 0 0 ∷
+    layer-holds (told-rising 65) 64 ∷
+    layer-told (told-rising 65) 0 65 ∷
+    below-told (told-rising 65) 0 1 ∷
+    -- a telling between the board below and the layer's own told price is refused by the layer; an equal one is not
+    below-told told-twice 0 5 ∷
+    layer-told told-twice 0 9 ∷
+    layer-refuses told-twice 0 7 ∷
+    below-takes told-twice 0 7 ∷
+    layer-told (told-twice ++ tell 0 7 ∷ []) 0 9 ∷
+    layer-holds (told-twice ++ tell 0 7 ∷ []) 1 ∷
+    below-told (told-twice ++ tell 0 7 ∷ settle ∷ []) 0 9 ∷
+    layer-holds (told-twice ++ tell 0 9 ∷ []) 2 ∷
+    []
 
 -- all of the worked cases hold
 abbrev pub Worked-cases-hold : Type 0

@@ -9,7 +9,7 @@ abbrev pub commonFace : CommonBoard → Face
 commonFace b = record {
   size = b .size;
   told = λ k. within (b .size) k (at (b .told) k);
-  shown = λ i k. within (b .size) i (within (b .size) k (at (b .told) k))
+  shown = λ i k. within (b .size) i (within (b .size) k (at (b .told) k));
 }
 
 -- every state is sound

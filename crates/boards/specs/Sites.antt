@@ -13,7 +13,7 @@ abbrev pub siteFace : SiteBoard → Face
 siteFace b = record {
   size = b .size;
   told = λ k. within (b .size) k (at (b .told) k);
-  shown = λ i k. within (b .size) i (within (b .size) k (at (copyAt (b .copies) (i % siteCount) .row) k))
+  shown = λ i k. within (b .size) i (within (b .size) k (at (copyAt (b .copies) (i % siteCount) .row) k));
 }
 
 -- no copy is ahead of the told prices

@@ -33,7 +33,13 @@ pub fn lag<B: PriceBoard>(board: &B, run: usize, seat: usize) -> u64
 }
 
 // The same through two delay layers over eight sites.
-pub fn announce_through_layers(board: &mut Delay<Delay<SiteBoard>>, n: usize, seat: usize, x: u64, run: usize) -> u64
+pub fn announce_through_layers(
+    board: &mut Delay<Delay<SiteBoard>>,
+    n: usize,
+    seat: usize,
+    x: u64,
+    run: usize,
+) -> u64
     ensures { λ r. ⌜ (n ≤ seatLimit → seat < n → run < n → r ≡ x) ⌝ }
 {
     announce(board, n, seat, x, run)

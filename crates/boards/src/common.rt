@@ -13,7 +13,10 @@ impl CommonBoard {
     pub fn new() -> Self
         ensures { λ r. ⌜ Cleared 0 (commonFace r) ⌝ }
     {
-        CommonBoard { size: 0, told: PriceRow::new() }
+        CommonBoard {
+            size: 0,
+            told: PriceRow::new(),
+        }
     }
 }
 
@@ -46,20 +49,22 @@ pub impl PriceBoard for CommonBoard as CommonIsBoard {
     }
 
     fn told(&self, seat: usize) -> u64 {
-        if seat < self.size { self.told.prices[seat] } else { 0 }
+        if seat < self.size {
+            self.told.prices[seat]
+        } else {
+            0
+        }
     }
 
     fn carry(&mut self, r: usize)
         ensures does { λ _. ⌜ (commonSound (now (self .entry)) → Carried (commonFace (now (self .entry))) (commonFace (now (self .exit)))) ⌝ }
         ensures safe { λ _. ⌜ (commonSound (now (self .entry)) → commonSound (now (self .exit))) ⌝ }
         ensures same { λ _. ⌜ now (self .exit) ≡ now (self .entry) ⌝ }
-    {
-    }
+    {}
 
     fn settle(&mut self)
         ensures does { λ _. ⌜ (commonSound (now (self .entry)) → Settled (commonFace (now (self .entry))) (commonFace (now (self .exit)))) ⌝ }
         ensures safe { λ _. ⌜ (commonSound (now (self .entry)) → commonSound (now (self .exit))) ⌝ }
         ensures same { λ _. ⌜ now (self .exit) ≡ now (self .entry) ⌝ }
-    {
-    }
+    {}
 }

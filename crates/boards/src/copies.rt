@@ -24,7 +24,11 @@ impl SiteCopy {
     pub fn new() -> Self
         ensures { λ r. ⌜ blank r ⌝ }
     {
-        SiteCopy { row: PriceRow::new(), from: SEAT_LIMIT, to: 0 }
+        SiteCopy {
+            row: PriceRow::new(),
+            from: SEAT_LIMIT,
+            to: 0,
+        }
     }
 
     // Notes that a price was told at a seat.

@@ -32,6 +32,20 @@ impl<B: PriceBoard + Drop> Delay<B> {
 }
 
 impl<B: PriceBoard> Delay<B> {
+    // The board below.
+    pub fn below(&self) -> &B
+        ensures { λ r. ⌜ now r ≡ now (self .entry) .below ⌝ }
+    {
+        &self.below
+    }
+
+    // How many tellings are held.
+    pub fn held(&self) -> usize
+        ensures { λ r. ⌜ r ≡ vec-len (now (self .entry) .held) ⌝ }
+    {
+        self.held.len()
+    }
+
     // The price of the newest telling held for a seat, else the told price below.
     fn latest(&self, seat: usize) -> u64
         ensures { λ r. ⌜ r ≡ newest (vec-items (now (self .entry) .held)) seat (B·PriceBoard .face (now (self .entry) .below) .told seat) ⌝ }
@@ -134,7 +148,11 @@ pub impl<B: PriceBoard> PriceBoard for Delay<B> as DelayIsBoard {
     }
 
     fn told(&self, seat: usize) -> u64 {
-        if seat < self.below.size() { self.latest(seat) } else { 0 }
+        if seat < self.below.size() {
+            self.latest(seat)
+        } else {
+            0
+        }
     }
 
     // Passes the r oldest tellings down, or all if fewer, and carries r below.

@@ -19,7 +19,17 @@ impl PriceRow {
     pub fn new() -> Self
         ensures { λ r. ⌜ ((k : ℕ) → at r k ≡ 0) ⌝ }
     {
-        PriceRow { prices: [0; SEAT_LIMIT] }
+        PriceRow::filled(0)
+    }
+
+    // A row of one price.
+    fn filled(x: u64) -> Self
+        ensures inside { λ r. ⌜ ((k : ℕ) → k < seatLimit → at r k ≡ x) ⌝ }
+        ensures past { λ r. ⌜ ((k : ℕ) → seatLimit ≤ k → at r k ≡ 0) ⌝ }
+    {
+        PriceRow {
+            prices: [x; SEAT_LIMIT],
+        }
     }
 
     // Puts a price at a seat.

@@ -3,7 +3,7 @@ ghost use mathlib.Core.Path.{_≡_};
 ghost use mathlib.Core.Logic.{_≢_};
 ghost use Prim.Native.Nat.{ℕ, _<_, _%_};
 ghost use Rattle.boards.specs.Limits.{siteCount};
-ghost use Rattle.boards.specs.Faces.{Cleared, Told, Carried, Settled, Takes, Refuses};
+ghost use Rattle.boards.specs.Faces.{Cleared, Settled, Takes, Refuses};
 ghost use Rattle.boards.specs.Copies.{copyAt, marked, NoSpan};
 ghost use Rattle.boards.specs.Sites.{siteFace, siteSound, SiteTold, SiteCarried};
 use crate::board::PriceBoard;
@@ -21,8 +21,13 @@ impl SiteBoard {
     pub fn new() -> Self
         ensures cleared { λ r. ⌜ Cleared 0 (siteFace r) ⌝ }
         ensures safe { λ r. ⌜ siteSound r ⌝ }
+        ensures everywhere { λ r. ⌜ ((c : ℕ) → c < siteCount → NoSpan (copyAt (r .copies) c)) ⌝ }
     {
-        SiteBoard { size: 0, told: PriceRow::new(), copies: [SiteCopy::new(); SITES] }
+        SiteBoard {
+            size: 0,
+            told: PriceRow::new(),
+            copies: [SiteCopy::new(); SITES],
+        }
     }
 }
 
@@ -31,7 +36,11 @@ pub impl PriceBoard for SiteBoard as SiteIsBoard {
 
     ghost sound = { siteSound };
 
-    fn clear(&mut self, n: usize) {
+    fn clear(&mut self, n: usize)
+        ensures does { λ _. ⌜ Cleared n (siteFace (now (self .exit))) ⌝ }
+        ensures safe { λ _. ⌜ siteSound (now (self .exit)) ⌝ }
+        ensures everywhere { λ _. ⌜ ((c : ℕ) → c < siteCount → NoSpan (copyAt (now (self .exit) .copies) c)) ⌝ }
+    {
         self.told = PriceRow::new();
         self.copies = [SiteCopy::new(); SITES];
         self.size = size_after_clear(n);
@@ -63,7 +72,11 @@ pub impl PriceBoard for SiteBoard as SiteIsBoard {
     }
 
     fn told(&self, seat: usize) -> u64 {
-        if seat < self.size { self.told.prices[seat] } else { 0 }
+        if seat < self.size {
+            self.told.prices[seat]
+        } else {
+            0
+        }
     }
 
     // Brings the copy of site r mod 8 up to the told prices.

@@ -17,5 +17,5 @@ returns c =
     record {
       held = c .truncate .ensures .items ∙ ap (λ (us : List Telling). take (c .len .result - n) us) (c .rotate-left .ensures .items) ∙ take-at (drop n ts) (take n ts) (c .len .result - n) left;
       len = search needs;
-      room = search needs
+      room = search needs;
     }

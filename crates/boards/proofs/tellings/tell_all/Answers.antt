@@ -15,10 +15,11 @@ loop-t-again g c =
     let i : ℕ = c .loop-t .t-index in
     let start : Face = g .B·PriceBoard .face (c .args .board .now) in
     let mid : Face = g .B·PriceBoard .face (c .loop-t .board) in
-    let end : Face = g .B·PriceBoard .face (c .tell .last .self) in
-    (λ s. subst (λ (us : List Telling). Passed us start end) (sym (take-more ts i (record { seat = 0; price = 0 }) (c .loop-t-test .taken)))
-       (passed-push (take i ts) (tellingAt ts i) start mid end (c .loop-t .inv .0 s) (c .tell .ensures .does (c .loop-t .inv .1 s))),
-     λ s. c .tell .ensures .safe (c .loop-t .inv .1 s))
+    let end : Face = g .B·PriceBoard .face (c .tell .last .self) in (
+      λ s. subst (λ (us : List Telling). Passed us start end) (sym (take-more ts i (record { seat = 0; price = 0 }) (c .loop-t-test .taken)))
+          (passed-push (take i ts) (tellingAt ts i) start mid end (c .loop-t .inv .0 s) (c .tell .ensures .does (c .loop-t .inv .1 s))),
+      λ s. c .tell .ensures .safe (c .loop-t .inv .1 s),
+    )
 
 pub returns : need.returns
 returns g c =
@@ -27,5 +28,5 @@ returns g c =
     let end : Face = g .B·PriceBoard .face (c .loop-t .board) in
     record {
       does = λ s. subst (λ (us : List Telling). Passed us start end) (take-all (c .loop-t .t-index) ts (c .loop-t-test .left)) (c .loop-t .inv .0 s);
-      safe = c .loop-t .inv .1
+      safe = c .loop-t .inv .1;
     }

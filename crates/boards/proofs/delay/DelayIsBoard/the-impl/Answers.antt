@@ -11,7 +11,7 @@ tell-tells g c =
     let m : Layer = layerOf (g .B·PriceBoard .face) (c .last .self .now) in
     record {
       does = λ s. told-layer l m (c .args .seat) (c .args .x) (s .1) (c .ensures .exact (s .0)) .0;
-      safe = λ s. (c .ensures .safe (s .0), told-layer l m (c .args .seat) (c .args .x) (s .1) (c .ensures .exact (s .0)) .1)
+      safe = λ s. (c .ensures .safe (s .0), told-layer l m (c .args .seat) (c .args .x) (s .1) (c .ensures .exact (s .0)) .1);
     }
 
 pub carry-tells : need.carry-tells
@@ -20,7 +20,7 @@ carry-tells g c =
     let m : Layer = layerOf (g .B·PriceBoard .face) (c .last .self .now) in
     record {
       does = λ s. carried-layer l m (c .args .r) (s .1) (c .ensures .exact (s .0)) .0;
-      safe = λ s. (c .ensures .safe (s .0), carried-layer l m (c .args .r) (s .1) (c .ensures .exact (s .0)) .1)
+      safe = λ s. (c .ensures .safe (s .0), carried-layer l m (c .args .r) (s .1) (c .ensures .exact (s .0)) .1);
     }
 
 pub settle-tells : need.settle-tells
@@ -29,5 +29,5 @@ settle-tells g c =
     let m : Layer = layerOf (g .B·PriceBoard .face) (c .last .self .now) in
     record {
       does = λ s. settled-layer l m (s .1) (c .ensures .exact (s .0)) .0;
-      safe = λ s. (c .ensures .safe (s .0), settled-layer l m (s .1) (c .ensures .exact (s .0)) .1)
+      safe = λ s. (c .ensures .safe (s .0), settled-layer l m (s .1) (c .ensures .exact (s .0)) .1);
     }

@@ -18,10 +18,10 @@ loop-t-again g c =
     let k : ℕ = c .args .seat in
     let none : Telling = record { seat = 0; price = 0 } in
     newest-more ts i k (c .loop-t .price) (c .if-t-seat .price) none (c .loop-t-test .taken)
-      (elim (c .if-t-seat .came) [
-        then-t-seat w ↦ w .price-is ∙ sym (cond-true (eqb k (getD ts i none .seat)) _ _ (eq-eqb k _ (sym (w .if-t-seat .taken))))
+    (elim (c .if-t-seat .came) [
+      | then-t-seat w ↦ w .price-is ∙ sym (cond-true (eqb k (getD ts i none .seat)) _ _ (eq-eqb k _ (sym (w .if-t-seat .taken))))
       | else-t-seat w ↦ w .price-is ∙ sym (cond-false (eqb k (getD ts i none .seat)) _ _ (ne-eqb k _ (λ e. w .if-t-seat .left (sym e))))
-      ])
+    ])
     ∙ c .loop-t .inv
 
 pub returns : need.returns
