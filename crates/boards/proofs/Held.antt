@@ -1,5 +1,5 @@
 -- Tellings that are held back.
-use mathlib.Core.Path.{_≡_, refl, sym, ap, subst, _∙_}
+use mathlib.Core.Path.{_≡_, refl, sym, ap, _∙_}
 use mathlib.Core.Bool.{cond}
 use mathlib.Core.Logic.{⊎-elim}
 use mathlib.Core.List.{List, [], _∷_, _++_}
@@ -11,8 +11,8 @@ use native.Mathlib.Nat.{le-refl, le-trans}
 use Rattle.std.proofs.shelf.Lists.{at-drop-more, at-drop-all, take-all, drop-all}
 use Rattle.std.proofs.shelf.Tests.{cases-lt, cond-both, eqb-true}
 use Rattle.boards.specs.declared.tellings.Telling.{Telling}
-use Rattle.boards.specs.Faces.{Face, Told}
-use Rattle.boards.specs.Tellings.{newest, Seated, Climbs, Passed}
+use Rattle.boards.specs.Calls.{Call, Run}
+use Rattle.boards.specs.Tellings.{newest, Seated, Climbs}
 
 -- a loop's step from the oldest on: y is the price so far with the telling at i, and x the one without
 pub newest-more : (ts : List Telling) (i k x y : ℕ) (t : Telling) → i < length ts → y ≡ cond (eqb k (getD ts i t .seat)) (getD ts i t .price) x → newest (drop (i + 1) ts) k y ≡ newest (drop i ts) k x
@@ -22,10 +22,10 @@ newest-more ts i k x y t h is =
 pub newest-all : (ts : List Telling) (i k x : ℕ) → length ts ≤ i → newest (drop i ts) k x ≡ x
 newest-all ts i k x h = at-drop-all (λ us. newest us k x) ts i h
 
--- one telling more, the last
-pub passed-push : (ts : List Telling) (t : Telling) (f g h : Face) → Passed ts f g → Told g h (t .seat) (t .price) → Passed (ts ++ (t ∷ [])) f h
-passed-push [] t f g h p told = (h, subst (λ (e : Face). Told e h (t .seat) (t .price)) (sym p) told, refl)
-passed-push (s ∷ ts) t f g h (m, first, p) told = (m, first, passed-push ts t m g h p told)
+-- one call more, the last
+pub run-push : {S : Type 0} (Does : Call → S → S → Type 0) (cs : List Call) (c : Call) (a m b : S) → Run Does cs a m → Does c m b → Run Does (cs ++ c ∷ []) a b
+run-push Does [] c a m b is did = (b, rw is did, refl)
+run-push Does (d ∷ cs) c a m b (n, first, rest) did = (n, first, run-push Does cs c n m b rest did)
 
 -- the first n, or all if fewer
 pub take-min : (n : ℕ) (ts : List Telling) → take (min n (length ts)) ts ≡ take n ts

@@ -11,10 +11,11 @@ use native.Mathlib.Nat.{le-refl, le-trans}
 use Rattle.std.proofs.shelf.Lists.{append-nil, take-append-drop}
 use Rattle.std.proofs.shelf.Tests.{cases-lt, cond-true, cond-false, eq-eqb, ne-eqb}
 use Rattle.boards.specs.declared.tellings.Telling.{Telling}
-use Rattle.boards.specs.Faces.{Face, Cleared, Told, Carried, Settled, SameTold, Takes, Refuses, within}
-use Rattle.boards.specs.Tellings.{newest, Seated, Climbs, Passed}
-use Rattle.boards.specs.Layers.{Layer, layerFace, Steady, LayerCleared, LayerTold, LayerCarried, LayerSettled, due}
-use Rattle.boards.proofs.Places.{inside, within-zero}
+use Rattle.boards.specs.Calls.{Run}
+use Rattle.boards.specs.Faces.{Face, Told, Carried, Settled, SameTold, Takes, Refuses, BoardDoes, within}
+use Rattle.boards.specs.Tellings.{newest, Seated, Climbs, calls}
+use Rattle.boards.specs.Layers.{Layer, layerFace, Steady, LayerTold, LayerCarried, LayerSettled, due}
+use Rattle.boards.proofs.Places.{inside}
 use Rattle.boards.proofs.Faces.{told-is, cases-takes, not-both, told-nothing}
 use Rattle.boards.proofs.Held.{newest-push, seated-push, climbs-push, newest-above}
 
@@ -24,7 +25,7 @@ pub record Moved (all left : List Telling) (f g : Face) : Type 0 where
   pub steady : Steady (record { below = g; held = left })
   pub newest : (k : ℕ) → newest left k (g .told k) ≡ newest all k (f .told k)
 
-pub moved : (ts us : List Telling) (f g : Face) → Steady (record { below = f; held = ts ++ us }) → Passed ts f g → Moved (ts ++ us) us f g
+pub moved : (ts us : List Telling) (f g : Face) → Steady (record { below = f; held = ts ++ us }) → Run BoardDoes (calls ts) f g → Moved (ts ++ us) us f g
 moved [] us f g s p = subst (λ (e : Face). Moved us us f e) p (record { size = refl; steady = s; newest = λ k. refl })
 moved (t ∷ ts) us f g s (m, told, rest) =
     let after : (k : ℕ) → m .told k ≡ cond (eqb k (t .seat)) (t .price) (f .told k) = told-is f m (t .seat) (t .price) told (s .seated .0, s .climbs (t .seat) .0 refl) in
@@ -40,7 +41,7 @@ moved (t ∷ ts) us f g s (m, told, rest) =
     }
 
 -- so it is for the first n of the tellings held
-pub moved-first : (n : ℕ) (l : Layer) (g : Face) → Steady l → Passed (take n (l .held)) (l .below) g → Moved (l .held) (drop n (l .held)) (l .below) g
+pub moved-first : (n : ℕ) (l : Layer Face) (g : Face) → Steady l → Run BoardDoes (calls (take n (l .held))) (l .below) g → Moved (l .held) (drop n (l .held)) (l .below) g
 moved-first n l g s p =
     let ts : List Telling = l .held in
     let whole : take n ts ++ drop n ts ≡ ts = take-append-drop n ts in
@@ -59,23 +60,23 @@ pub told-same : (n m k : ℕ) (x y : ℕ) → n ≡ m → x ≡ y → within n k
 told-same n m k x y p q = ap (λ (j : ℕ). within j k x) p ∙ ap (λ (z : ℕ). within m k z) q
 
 -- the layer keeps its told prices when tellings pass down
-pub moved-same : (l : Layer) (left : List Telling) (g h : Face) → Moved (l .held) left (l .below) g → SameTold g h → SameTold (layerFace l) (layerFace (record { below = h; held = left }))
+pub moved-same : (l : Layer Face) (left : List Telling) (g h : Face) → Moved (l .held) left (l .below) g → SameTold g h → SameTold (layerFace l) (layerFace (record { below = h; held = left }))
 moved-same l left g h mv same = record {
   size = same .size ∙ mv .size;
   told = λ k. told-same (h .size) (l .below .size) k (newest left k (h .told k)) (newest (l .held) k (l .below .told k)) (same .size ∙ mv .size) (ap (λ (x : ℕ). newest left k x) (same .told k) ∙ mv .newest k);
 }
 
-abbrev Stands : Layer → Layer → Type 0
+abbrev Stands : Layer Face → Layer Face → Type 0
 Stands l m = SameTold (layerFace l) (layerFace m) × Steady m
 
-pub carried-layer : (l m : Layer) (r : ℕ) → Steady l → LayerCarried l m r → Carried (layerFace l) (layerFace m) × Steady m
+pub carried-layer : (l m : Layer Face) (r : ℕ) → Steady l → LayerCarried BoardDoes l m r → Carried (layerFace l) (layerFace m) × Steady m
 carried-layer l m r s did =
     let f : Face = did .below .0 in
     let mv : Moved (l .held) (drop r (l .held)) (l .below) f = moved-first r l f s (did .below .1) in
     subst (λ (ts : List Telling). Stands l (record { below = m .below; held = ts })) (sym (did .held))
     (moved-same l (drop r (l .held)) f (m .below) mv (did .below .2), steady-same (drop r (l .held)) f (m .below) (did .below .2) (mv .steady))
 
-pub settled-layer : (l m : Layer) → Steady l → LayerSettled l m → Settled (layerFace l) (layerFace m) × Steady m
+pub settled-layer : (l m : Layer Face) → Steady l → LayerSettled BoardDoes l m → Settled (layerFace l) (layerFace m) × Steady m
 settled-layer l m s did =
     let f : Face = did .below .0 in
     let same : SameTold f (m .below) = did .below .2 .same in
@@ -93,19 +94,8 @@ settled-layer l m s did =
       stands .1,
     )
 
-pub cleared-layer : (n : ℕ) (l : Layer) → LayerCleared n l → Cleared n (layerFace l) × Steady l
-cleared-layer n l did = (
-  record {
-    sized = did .below .sized;
-    emptied = did .below .emptied;
-    untold = λ k. ap (λ (ts : List Telling). within (l .below .size) k (newest ts k (l .below .told k))) (did .held) ∙ ap (λ (x : ℕ). within (l .below .size) k x) (did .below .untold k) ∙ within-zero (l .below .size) k;
-    unshown = did .below .unshown;
-  },
-  subst (λ (ts : List Telling). Steady (record { below = l .below; held = ts })) (sym (did .held)) (record { seated = tt; climbs = λ k. tt }),
-)
-
 -- a telling that is taken: the first n pass down, and one more is held
-pub taken-layer : (n : ℕ) (l : Layer) (g : Face) (t : Telling) → Steady l → Takes (layerFace l) (t .seat) (t .price) → Passed (take n (l .held)) (l .below) g
+pub taken-layer : (n : ℕ) (l : Layer Face) (g : Face) (t : Telling) → Steady l → Takes (layerFace l) (t .seat) (t .price) → Run BoardDoes (calls (take n (l .held))) (l .below) g
     → Told (layerFace l) (layerFace (record { below = g; held = drop n (l .held) ++ (t ∷ []) })) (t .seat) (t .price) × Steady (record { below = g; held = drop n (l .held) ++ (t ∷ []) })
 taken-layer n l g t s takes passed =
     let f : Face = l .below in
@@ -128,18 +118,18 @@ taken-layer n l g t s takes passed =
       },
     )
 
-pub told-layer : (l m : Layer) (seat x : ℕ) → Steady l → LayerTold l m seat x → Told (layerFace l) (layerFace m) seat x × Steady m
+pub told-layer : (l m : Layer Face) (seat x : ℕ) → Steady l → LayerTold (λ f. f) BoardDoes l m seat x → Told (layerFace l) (layerFace m) seat x × Steady m
 told-layer l m seat x s did = ⊎-elim
     (λ (takes : Takes (layerFace l) seat x).
     subst (λ (ts : List Telling). Told (layerFace l) (layerFace (record { below = m .below; held = ts })) seat x × Steady (record { below = m .below; held = ts })) (sym (did .held takes))
     (taken-layer (due (l .held)) l (m .below) (record { seat = seat; price = x }) s takes (did .below takes)))
     (λ (why : Refuses (layerFace l) seat x).
-    subst (λ (n : Layer). Told (layerFace l) (layerFace n) seat x × Steady n) (sym (did .refused why))
+    subst (λ (n : Layer Face). Told (layerFace l) (layerFace n) seat x × Steady n) (sym (did .refused why))
     (told-nothing (layerFace l) seat x (λ takes. not-both (layerFace l) seat x takes why), s))
     (cases-takes (layerFace l) seat x)
 
 -- what is shown below the layer is at most the layer's told price
-pub layer-behind : (l : Layer) → Steady l → ((i k : ℕ) → l .below .shown i k ≤ l .below .told k) → ((i k : ℕ) → (l .below .size ≤ i) ⊎ (l .below .size ≤ k) → l .below .shown i k ≡ 0) → (i k : ℕ) → layerFace l .shown i k ≤ layerFace l .told k
+pub layer-behind : (l : Layer Face) → Steady l → ((i k : ℕ) → l .below .shown i k ≤ l .below .told k) → ((i k : ℕ) → (l .below .size ≤ i) ⊎ (l .below .size ≤ k) → l .below .shown i k ≡ 0) → (i k : ℕ) → layerFace l .shown i k ≤ layerFace l .told k
 layer-behind l s behind unshown i k = ⊎-elim
     (λ (h : k < l .below .size). subst (λ (x : ℕ). l .below .shown i k ≤ x) (sym (inside (l .below .size) k _ h)) (le-trans (behind i k) (newest-above (l .held) k (l .below .told k) (s .climbs k))))
     (λ (h : l .below .size ≤ k). omega (arith, unshown i k (inr h)))

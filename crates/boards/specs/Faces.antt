@@ -4,6 +4,7 @@ use mathlib.Core.Bool.{cond}
 use mathlib.Core.Logic.{_⊎_, _≢_}
 use Prim.Native.Nat.{ℕ, _<_, _≤_}
 use lib.Dec.{ltb}
+use Rattle.boards.specs.Calls.{Call, clears, tells, carries, settles}
 use Rattle.boards.specs.Limits.{seatLimit}
 
 -- as many seats as runs, the told price of each seat, and the price shown to each run at each seat
@@ -60,3 +61,10 @@ Level f = (i k : ℕ) → i < f .size → k < f .size → f .shown i k ≡ f .to
 pub record Settled (f g : Face) : Type 0 where
   pub same : SameTold f g
   pub level : Level g
+
+-- what a call does to any board that is sound
+abbrev pub BoardDoes : Call → Face → Face → Type 0
+BoardDoes (clears n) f g = Cleared n g
+BoardDoes (tells k x) f g = Told f g k x
+BoardDoes (carries r) f g = Carried f g
+BoardDoes settles f g = Settled f g

@@ -1,4 +1,4 @@
--- What a delay layer means, by what the board below it means, and what its calls do.
+-- What a delay layer means, by the board below it, and what its calls do.
 use mathlib.Core.Path.{_≡_}
 use mathlib.Core.List.{List, [], _∷_, _++_}
 use Prim.Native.Nat.{ℕ, _+_, _-_}
@@ -7,62 +7,80 @@ use Rattle.std.specs.Of.Vec.{vec-items}
 use Rattle.boards.specs.declared.tellings.Telling.{Telling}
 use Rattle.boards.specs.declared.states.Delay.{Delay}
 use Rattle.boards.specs.Limits.{heldLimit}
-use Rattle.boards.specs.Faces.{Face, Cleared, Takes, Refuses, Carried, Settled, within}
-use Rattle.boards.specs.Tellings.{newest, Seated, Climbs, Passed, Rise, Above}
+use Rattle.boards.specs.Calls.{Call, clears, tells, carries, settles, Run}
+use Rattle.boards.specs.Faces.{Face, Takes, Refuses, within}
+use Rattle.boards.specs.Tellings.{newest, Seated, Climbs, Rise, Above, calls}
 
--- the board below, and the tellings held back from it, the oldest first
-pub record Layer : Type 0 where
-  pub below : Face
+-- the board below, or what it means, and the tellings held back from it, the oldest first
+pub record Layer (S : Type 0) : Type 0 where
+  pub below : S
   pub held : List Telling
 
 -- the layer that a delay layer is
-abbrev pub layerOf : {B : Type 0} → (B → Face) → Delay B → Layer
-layerOf face d = record { below = face (d .below); held = vec-items (d .held) }
+abbrev pub layerOf : {B : Type 0} → Delay B → Layer B
+layerOf d = record { below = d .below; held = vec-items (d .held) }
+
+-- a layer over what the board below means
+abbrev pub overFace : {S : Type 0} → (S → Face) → Layer S → Layer Face
+overFace face l = record { below = face (l .below); held = l .held }
 
 -- the told price is that of the newest telling held for the seat, else that of the board below; the rest is as below
-abbrev pub layerFace : Layer → Face
+abbrev pub layerFace : Layer Face → Face
 layerFace l = record {
   size = l .below .size;
   told = λ k. within (l .below .size) k (newest (l .held) k (l .below .told k));
-  shown = l .below .shown;
+  shown = l .below .shown
 }
 
+-- what a delay layer means
+abbrev pub delayFace : {B : Type 0} → (B → Face) → Delay B → Face
+delayFace face d = layerFace (overFace face (layerOf d))
+
 -- the held seats are below the size, and the tellings of each never fall, from the told price below upward
-pub record Steady (l : Layer) : Type 0 where
+pub record Steady (l : Layer Face) : Type 0 where
   pub seated : Seated (l .below .size) (l .held)
   pub climbs : (k : ℕ) → Climbs (l .held) k (l .below .told k)
 
 -- a delay layer is sound when the board below is, and the layer is steady
-abbrev pub LayerSound : {B : Type 0} → (B → Face) → (B → Type 0) → Delay B → Type 0
-LayerSound face sound d = sound (d .below) × Steady (layerOf face d)
-
--- l holds nothing, and the board below is cleared to n seats
-pub record LayerCleared (n : ℕ) (l : Layer) : Type 0 where
-  pub held : l .held ≡ []
-  pub below : Cleared n (l .below)
+abbrev pub DelaySound : {B : Type 0} → (B → Face) → (B → Type 0) → Delay B → Type 0
+DelaySound face sound d = sound (d .below) × Steady (overFace face (layerOf d))
 
 -- how many tellings pass down before one more is held: one where as many as may be are held, else none
 abbrev pub due : List Telling → ℕ
 due ts = length ts + 1 - heldLimit
 
+-- below, Does says what a call does to the board below, and face what that board means
+
+-- m holds nothing, and the board below is cleared to n seats
+pub record LayerCleared {S : Type 0} (Does : Call → S → S → Type 0) (l m : Layer S) (n : ℕ) : Type 0 where
+  pub held : m .held ≡ []
+  pub below : Does (clears n) (l .below) (m .below)
+
 -- l became m when the price of a seat was told: a telling that is taken, by the layer's own told price, is held as the
 -- newest, and where the layer was full the oldest is first told below; one that is refused changes nothing
-pub record LayerTold (l m : Layer) (seat x : ℕ) : Type 0 where
-  pub held : Takes (layerFace l) seat x → m .held ≡ drop (due (l .held)) (l .held) ++ record { seat = seat; price = x } ∷ []
-  pub below : Takes (layerFace l) seat x → Passed (take (due (l .held)) (l .held)) (l .below) (m .below)
-  pub refused : Refuses (layerFace l) seat x → m ≡ l
+pub record LayerTold {S : Type 0} (face : S → Face) (Does : Call → S → S → Type 0) (l m : Layer S) (seat x : ℕ) : Type 0 where
+  pub held : Takes (layerFace (overFace face l)) seat x → m .held ≡ drop (due (l .held)) (l .held) ++ record { seat = seat; price = x } ∷ []
+  pub below : Takes (layerFace (overFace face l)) seat x → Run Does (calls (take (due (l .held)) (l .held))) (l .below) (m .below)
+  pub refused : Refuses (layerFace (overFace face l)) seat x → m ≡ l
 
 -- l became m when r was carried: the r oldest tellings are told below in order, and then r is carried below
-pub record LayerCarried (l m : Layer) (r : ℕ) : Type 0 where
+pub record LayerCarried {S : Type 0} (Does : Call → S → S → Type 0) (l m : Layer S) (r : ℕ) : Type 0 where
   pub held : m .held ≡ drop r (l .held)
-  pub below : (f : Face) × Passed (take r (l .held)) (l .below) f × Carried f (m .below)
+  pub below : (s : S) × Run Does (calls (take r (l .held))) (l .below) s × Does (carries r) s (m .below)
 
 -- l became m when it was settled: all tellings are told below in order, and then the board below is settled
-pub record LayerSettled (l m : Layer) : Type 0 where
+pub record LayerSettled {S : Type 0} (Does : Call → S → S → Type 0) (l m : Layer S) : Type 0 where
   pub held : m .held ≡ []
-  pub below : (f : Face) × Passed (l .held) (l .below) f × Settled f (m .below)
+  pub below : (s : S) × Run Does (calls (l .held)) (l .below) s × Does settles s (m .below)
+
+-- what a call does to a delay layer
+abbrev pub LayerDoes : {S : Type 0} → (S → Face) → (Call → S → S → Type 0) → Call → Layer S → Layer S → Type 0
+LayerDoes face Does (clears n) l m = LayerCleared Does l m n
+LayerDoes face Does (tells k x) l m = LayerTold face Does l m k x
+LayerDoes face Does (carries r) l m = LayerCarried Does l m r
+LayerDoes face Does settles l m = LayerSettled Does l m
 
 -- in a steady layer the tellings held for a seat rise from oldest to newest, and none is below the told price below
 pub record Held-tellings-rise : Type 0 where
-  pub rise : (l : Layer) → Steady l → Rise (l .held)
-  pub above : (l : Layer) → Steady l → Above (l .held) (l .below .told)
+  pub rise : (l : Layer Face) → Steady l → Rise (l .held)
+  pub above : (l : Layer Face) → Steady l → Above (l .held) (l .below .told)

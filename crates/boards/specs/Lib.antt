@@ -1,4 +1,5 @@
 pub mod Limits
+pub mod Calls
 pub mod Faces
 pub mod Rows
 pub mod Copies

@@ -4,7 +4,8 @@ use mathlib.Core.Logic.{_≢_}
 use Prim.Native.Nat.{ℕ, _<_, _%_}
 use Rattle.boards.specs.declared.states.SiteBoard.{SiteBoard}
 use Rattle.boards.specs.Limits.{siteCount}
-use Rattle.boards.specs.Faces.{Face, Told, Carried, SameShown, within}
+use Rattle.boards.specs.Calls.{Call, clears, tells, carries, settles}
+use Rattle.boards.specs.Faces.{Face, Cleared, Told, Carried, Settled, SameShown, within}
 use Rattle.boards.specs.Rows.{at}
 use Rattle.boards.specs.Copies.{copyAt, Behind}
 
@@ -30,3 +31,10 @@ pub record SiteCarried (f g : Face) (r : ℕ) : Type 0 where
   pub carried : Carried f g
   pub reached : (i k : ℕ) → i < f .size → i % siteCount ≡ r % siteCount → g .shown i k ≡ f .told k
   pub others : (i k : ℕ) → i % siteCount ≢ r % siteCount → g .shown i k ≡ f .shown i k
+
+-- what a call does to a site board
+abbrev pub SiteDoes : Call → Face → Face → Type 0
+SiteDoes (clears n) f g = Cleared n g
+SiteDoes (tells k x) f g = SiteTold f g k x
+SiteDoes (carries r) f g = SiteCarried f g r
+SiteDoes settles f g = Settled f g

@@ -1,12 +1,12 @@
 -- Tellings that are held back, the oldest first.
 use mathlib.Core.Path.{_≡_}
 use mathlib.Core.Bool.{cond}
-use mathlib.Core.List.{List, [], _∷_}
+use mathlib.Core.List.{List, [], _∷_, map}
 use Prim.Native.Nat.{ℕ, _<_, _≤_}
 use lib.Dec.{eqb}
 use lib.ListN.{length, getD}
 use Rattle.boards.specs.declared.tellings.Telling.{Telling}
-use Rattle.boards.specs.Faces.{Face, Told}
+use Rattle.boards.specs.Calls.{Call, tells}
 
 -- the price of the newest telling for seat k, or x where there is none
 abbrev pub newest : List Telling → ℕ → ℕ → ℕ
@@ -23,10 +23,13 @@ abbrev pub Climbs : List Telling → ℕ → ℕ → Type 0
 Climbs [] k x = Unit {0}
 Climbs (t ∷ ts) k x = (k ≡ t .seat → x ≤ t .price) × Climbs ts k (cond (eqb k (t .seat)) (t .price) x)
 
--- f became g when it was told these tellings, in order
-abbrev pub Passed : List Telling → Face → Face → Type 0
-Passed [] f g = f ≡ g
-Passed (t ∷ ts) f g = (m : Face) × Told f m (t .seat) (t .price) × Passed ts m g
+-- the call that a telling is
+abbrev pub call : Telling → Call
+call t = tells (t .seat) (t .price)
+
+-- tellings as calls, in order
+abbrev pub calls : List Telling → List Call
+calls ts = map call ts
 
 -- the telling at a place of a list
 abbrev pub tellingAt : List Telling → ℕ → Telling

@@ -3,6 +3,7 @@ ghost use mathlib.Core.Path.{_≡_};
 ghost use mathlib.Core.Logic.{_⊎_};
 ghost use Prim.Native.Nat.{ℕ, _≤_};
 ghost use Rattle.boards.specs.Limits.{seatLimit};
+ghost use Rattle.boards.specs.Calls.{Call, clears, tells, carries, settles};
 ghost use Rattle.boards.specs.Faces.{Face, Cleared, Told, Carried, Settled};
 
 // Prices that are told to a board, and that it shows to each run, at once or later.
@@ -12,6 +13,9 @@ pub trait PriceBoard {
 
     // the states in which the board keeps its rules
     ghost sound: { Self → Type 0 };
+
+    // all that a call does to a board of this kind
+    ghost step: { Call → Self → Self → Type 0 };
 
     law few: { (b : Self) → face b .size ≤ seatLimit };
 
@@ -23,11 +27,13 @@ pub trait PriceBoard {
 
     // Makes a board of n seats, or of none where n is over the limit, with every price 0.
     fn clear(&mut self, n: usize)
+        ensures own { λ _. ⌜ step (clears n) (now (self .entry)) (now (self .exit)) ⌝ }
         ensures does { λ _. ⌜ Cleared n (face (now (self .exit))) ⌝ }
         ensures safe { λ _. ⌜ sound (now (self .exit)) ⌝ };
 
     // Tells the price x of a seat, which is taken if the seat is one and x is at least its told price.
     fn tell(&mut self, seat: usize, x: u64)
+        ensures own { λ _. ⌜ step (tells seat x) (now (self .entry)) (now (self .exit)) ⌝ }
         ensures does { λ _. ⌜ (sound (now (self .entry)) → Told (face (now (self .entry))) (face (now (self .exit))) seat x) ⌝ }
         ensures safe { λ _. ⌜ (sound (now (self .entry)) → sound (now (self .exit))) ⌝ };
 
@@ -45,11 +51,13 @@ pub trait PriceBoard {
 
     // Brings prices closer to being shown, as the kind of board has it.
     fn carry(&mut self, r: usize)
+        ensures own { λ _. ⌜ step (carries r) (now (self .entry)) (now (self .exit)) ⌝ }
         ensures does { λ _. ⌜ (sound (now (self .entry)) → Carried (face (now (self .entry))) (face (now (self .exit)))) ⌝ }
         ensures safe { λ _. ⌜ (sound (now (self .entry)) → sound (now (self .exit))) ⌝ };
 
     // Has every run shown every told price.
     fn settle(&mut self)
+        ensures own { λ _. ⌜ step settles (now (self .entry)) (now (self .exit)) ⌝ }
         ensures does { λ _. ⌜ (sound (now (self .entry)) → Settled (face (now (self .entry))) (face (now (self .exit)))) ⌝ }
         ensures safe { λ _. ⌜ (sound (now (self .entry)) → sound (now (self .exit))) ⌝ };
 }

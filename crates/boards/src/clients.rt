@@ -3,8 +3,6 @@ ghost use mathlib.Core.Path.{_≡_};
 ghost use mathlib.Core.Logic.{_≢_};
 ghost use Prim.Native.Nat.{ℕ, _-_, _<_, _≤_};
 ghost use Rattle.boards.specs.Limits.{seatLimit};
-ghost use Rattle.boards.specs.Layers.{LayerSound, layerFace, layerOf};
-ghost use Rattle.boards.specs.Sites.{siteFace};
 use crate::board::PriceBoard;
 use crate::delay::DelayIsBoard;
 use crate::site::SiteIsBoard;

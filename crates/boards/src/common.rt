@@ -2,7 +2,7 @@
 ghost use mathlib.Core.Path.{_≡_};
 ghost use Prim.Native.Nat.{ℕ};
 ghost use Rattle.boards.specs.Faces.{Cleared, Told, Carried, Settled, Level};
-ghost use Rattle.boards.specs.Commons.{commonFace, commonSound};
+ghost use Rattle.boards.specs.Commons.{commonFace, commonSound, CommonDoes};
 use crate::board::PriceBoard;
 use crate::rows::PriceRow;
 use crate::rows::size_after_clear;
@@ -24,6 +24,8 @@ pub impl PriceBoard for CommonBoard as CommonIsBoard {
     ghost face = { commonFace };
 
     ghost sound = { commonSound };
+
+    ghost step = { CommonDoes };
 
     fn clear(&mut self, n: usize) {
         self.told = PriceRow::new();

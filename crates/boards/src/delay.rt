@@ -7,9 +7,10 @@ ghost use Rattle.std.specs.Orderings.{Decides};
 ghost use Rattle.std.specs.Of.Vec.{vec-items, vec-len, vec-cap};
 ghost use Rattle.std.specs.Vec.{made};
 ghost use Rattle.boards.specs.Limits.{heldLimit};
-ghost use Rattle.boards.specs.Faces.{Takes};
-ghost use Rattle.boards.specs.Tellings.{newest, Passed};
-ghost use Rattle.boards.specs.Layers.{layerOf, layerFace, due, LayerSound, LayerCleared, LayerTold, LayerCarried, LayerSettled};
+ghost use Rattle.boards.specs.Calls.{Run, clears, tells, carries, settles};
+ghost use Rattle.boards.specs.Faces.{Takes, BoardDoes};
+ghost use Rattle.boards.specs.Tellings.{newest, calls};
+ghost use Rattle.boards.specs.Layers.{layerOf, overFace, delayFace, due, DelaySound, LayerDoes};
 use crate::board::PriceBoard;
 use crate::states::Delay;
 use crate::tellings::Telling;
@@ -24,7 +25,7 @@ impl<B: PriceBoard + Drop> Delay<B> {
     // A layer over a board, with nothing held; it is sound where the board below is.
     pub fn new(heap: Global, below: B) -> Result<Self, AllocError>
         ensures state { λ r. ⌜ made r (λ d. (d .below ≡ below) × (vec-items (d .held) ≡ [])) ⌝ }
-        ensures safe { λ r. ⌜ made r (λ d. B·PriceBoard .sound below → LayerSound (B·PriceBoard .face) (B·PriceBoard .sound) d) ⌝ }
+        ensures safe { λ r. ⌜ made r (λ d. B·PriceBoard .sound below → DelaySound (B·PriceBoard .face) (B·PriceBoard .sound) d) ⌝ }
     {
         let held = Vec::with_capacity(heap, HELD_LIMIT)?;
         Ok(Delay { below, held })
@@ -61,7 +62,7 @@ impl<B: PriceBoard> Delay<B> {
 
     // Whether the layer takes a telling, by its own told price and not by that of the board below.
     fn takes(&self, seat: usize, x: u64) -> bool
-        ensures { λ r. ⌜ Decides r (Takes (layerFace (layerOf (B·PriceBoard .face) (now (self .entry)))) seat x) ⌝ }
+        ensures { λ r. ⌜ Decides r (Takes (delayFace (B·PriceBoard .face) (now (self .entry))) seat x) ⌝ }
     {
         seat < self.below.size() && x >= self.latest(seat)
     }
@@ -69,10 +70,12 @@ impl<B: PriceBoard> Delay<B> {
     // Tells the board below the oldest tellings in order, `count` of them or all if fewer, and holds them no more.
     fn pass(&mut self, count: usize)
         ensures held { λ _. ⌜ vec-items (now (self .exit) .held) ≡ drop count (vec-items (now (self .entry) .held)) ⌝ }
-        ensures below { λ _. ⌜ (B·PriceBoard .sound (now (self .entry) .below) → Passed (take count (vec-items (now (self .entry) .held))) (B·PriceBoard .face (now (self .entry) .below)) (B·PriceBoard .face (now (self .exit) .below))) ⌝ }
+        ensures own { λ _. ⌜ Run (B·PriceBoard .step) (calls (take count (vec-items (now (self .entry) .held)))) (now (self .entry) .below) (now (self .exit) .below) ⌝ }
+        ensures does { λ _. ⌜ (B·PriceBoard .sound (now (self .entry) .below) → Run BoardDoes (calls (take count (vec-items (now (self .entry) .held)))) (B·PriceBoard .face (now (self .entry) .below)) (B·PriceBoard .face (now (self .exit) .below))) ⌝ }
         ensures safe { λ _. ⌜ (B·PriceBoard .sound (now (self .entry) .below) → B·PriceBoard .sound (now (self .exit) .below)) ⌝ }
         ensures emptied { λ _. ⌜ (vec-len (now (self .entry) .held) ≤ count → vec-items (now (self .exit) .held) ≡ []) ⌝ }
-        ensures whole { λ _. ⌜ (vec-len (now (self .entry) .held) ≤ count → B·PriceBoard .sound (now (self .entry) .below) → Passed (vec-items (now (self .entry) .held)) (B·PriceBoard .face (now (self .entry) .below)) (B·PriceBoard .face (now (self .exit) .below))) ⌝ }
+        ensures ownall { λ _. ⌜ (vec-len (now (self .entry) .held) ≤ count → Run (B·PriceBoard .step) (calls (vec-items (now (self .entry) .held))) (now (self .entry) .below) (now (self .exit) .below)) ⌝ }
+        ensures doesall { λ _. ⌜ (vec-len (now (self .entry) .held) ≤ count → B·PriceBoard .sound (now (self .entry) .below) → Run BoardDoes (calls (vec-items (now (self .entry) .held))) (B·PriceBoard .face (now (self .entry) .below)) (B·PriceBoard .face (now (self .exit) .below))) ⌝ }
     {
         let passing = count.min(self.held.len());
         tell_all(&mut self.below, &self.held[..passing]);
@@ -82,9 +85,9 @@ impl<B: PriceBoard> Delay<B> {
     // Passes the oldest telling down where the layer is full.
     fn make_room(&mut self)
         ensures held { λ _. ⌜ vec-items (now (self .exit) .held) ≡ drop (due (vec-items (now (self .entry) .held))) (vec-items (now (self .entry) .held)) ⌝ }
-        ensures below { λ _. ⌜ (B·PriceBoard .sound (now (self .entry) .below) → Passed (take (due (vec-items (now (self .entry) .held))) (vec-items (now (self .entry) .held))) (B·PriceBoard .face (now (self .entry) .below)) (B·PriceBoard .face (now (self .exit) .below))) ⌝ }
+        ensures own { λ _. ⌜ Run (B·PriceBoard .step) (calls (take (due (vec-items (now (self .entry) .held))) (vec-items (now (self .entry) .held)))) (now (self .entry) .below) (now (self .exit) .below) ⌝ }
+        ensures does { λ _. ⌜ (B·PriceBoard .sound (now (self .entry) .below) → Run BoardDoes (calls (take (due (vec-items (now (self .entry) .held))) (vec-items (now (self .entry) .held)))) (B·PriceBoard .face (now (self .entry) .below)) (B·PriceBoard .face (now (self .exit) .below))) ⌝ }
         ensures safe { λ _. ⌜ (B·PriceBoard .sound (now (self .entry) .below) → B·PriceBoard .sound (now (self .exit) .below)) ⌝ }
-        ensures kept { λ _. ⌜ (vec-len (now (self .entry) .held) < heldLimit → now (self .exit) .below ≡ now (self .entry) .below) ⌝ }
         ensures room { λ _. ⌜ vec-len (now (self .exit) .held) < heldLimit ⌝ }
     {
         let passing = passing_for_one(self.held.len());
@@ -115,12 +118,15 @@ fn drop_oldest(held: &mut Vec<Telling>, count: usize)
 }
 
 pub impl<B: PriceBoard> PriceBoard for Delay<B> as DelayIsBoard {
-    ghost face = { λ d. layerFace (layerOf (B·PriceBoard .face) d) };
+    ghost face = { delayFace (B·PriceBoard .face) };
 
-    ghost sound = { LayerSound (B·PriceBoard .face) (B·PriceBoard .sound) };
+    ghost sound = { DelaySound (B·PriceBoard .face) (B·PriceBoard .sound) };
+
+    ghost step = { λ c d e. LayerDoes (B·PriceBoard .face) (B·PriceBoard .step) c (layerOf d) (layerOf e) };
 
     fn clear(&mut self, n: usize)
-        ensures exact { λ _. ⌜ LayerCleared n (layerOf (B·PriceBoard .face) (now (self .exit))) ⌝ }
+        ensures own { λ _. ⌜ LayerDoes (B·PriceBoard .face) (B·PriceBoard .step) (clears n) (layerOf (now (self .entry))) (layerOf (now (self .exit))) ⌝ }
+        ensures does { λ _. ⌜ LayerDoes (λ f. f) BoardDoes (clears n) (overFace (B·PriceBoard .face) (layerOf (now (self .entry)))) (overFace (B·PriceBoard .face) (layerOf (now (self .exit)))) ⌝ }
         ensures safe { λ _. ⌜ B·PriceBoard .sound (now (self .exit) .below) ⌝ }
     {
         self.held.clear();
@@ -129,8 +135,8 @@ pub impl<B: PriceBoard> PriceBoard for Delay<B> as DelayIsBoard {
 
     // A telling that is taken is held as the newest.
     fn tell(&mut self, seat: usize, x: u64)
-        ensures exact { λ _. ⌜ (B·PriceBoard .sound (now (self .entry) .below) → LayerTold (layerOf (B·PriceBoard .face) (now (self .entry))) (layerOf (B·PriceBoard .face) (now (self .exit))) seat x) ⌝ }
-        ensures kept { λ _. ⌜ (vec-len (now (self .entry) .held) < heldLimit → now (self .exit) .below ≡ now (self .entry) .below) ⌝ }
+        ensures own { λ _. ⌜ LayerDoes (B·PriceBoard .face) (B·PriceBoard .step) (tells seat x) (layerOf (now (self .entry))) (layerOf (now (self .exit))) ⌝ }
+        ensures does { λ _. ⌜ (B·PriceBoard .sound (now (self .entry) .below) → LayerDoes (λ f. f) BoardDoes (tells seat x) (overFace (B·PriceBoard .face) (layerOf (now (self .entry)))) (overFace (B·PriceBoard .face) (layerOf (now (self .exit))))) ⌝ }
         ensures safe { λ _. ⌜ (B·PriceBoard .sound (now (self .entry) .below) → B·PriceBoard .sound (now (self .exit) .below)) ⌝ }
     {
         if self.takes(seat, x) {
@@ -157,7 +163,8 @@ pub impl<B: PriceBoard> PriceBoard for Delay<B> as DelayIsBoard {
 
     // Passes the r oldest tellings down, or all if fewer, and carries r below.
     fn carry(&mut self, r: usize)
-        ensures exact { λ _. ⌜ (B·PriceBoard .sound (now (self .entry) .below) → LayerCarried (layerOf (B·PriceBoard .face) (now (self .entry))) (layerOf (B·PriceBoard .face) (now (self .exit))) r) ⌝ }
+        ensures own { λ _. ⌜ LayerDoes (B·PriceBoard .face) (B·PriceBoard .step) (carries r) (layerOf (now (self .entry))) (layerOf (now (self .exit))) ⌝ }
+        ensures does { λ _. ⌜ (B·PriceBoard .sound (now (self .entry) .below) → LayerDoes (λ f. f) BoardDoes (carries r) (overFace (B·PriceBoard .face) (layerOf (now (self .entry)))) (overFace (B·PriceBoard .face) (layerOf (now (self .exit))))) ⌝ }
         ensures safe { λ _. ⌜ (B·PriceBoard .sound (now (self .entry) .below) → B·PriceBoard .sound (now (self .exit) .below)) ⌝ }
     {
         self.pass(r);
@@ -166,7 +173,8 @@ pub impl<B: PriceBoard> PriceBoard for Delay<B> as DelayIsBoard {
 
     // Passes all tellings down, and settles the board below.
     fn settle(&mut self)
-        ensures exact { λ _. ⌜ (B·PriceBoard .sound (now (self .entry) .below) → LayerSettled (layerOf (B·PriceBoard .face) (now (self .entry))) (layerOf (B·PriceBoard .face) (now (self .exit)))) ⌝ }
+        ensures own { λ _. ⌜ LayerDoes (B·PriceBoard .face) (B·PriceBoard .step) settles (layerOf (now (self .entry))) (layerOf (now (self .exit))) ⌝ }
+        ensures does { λ _. ⌜ (B·PriceBoard .sound (now (self .entry) .below) → LayerDoes (λ f. f) BoardDoes settles (overFace (B·PriceBoard .face) (layerOf (now (self .entry)))) (overFace (B·PriceBoard .face) (layerOf (now (self .exit))))) ⌝ }
         ensures safe { λ _. ⌜ (B·PriceBoard .sound (now (self .entry) .below) → B·PriceBoard .sound (now (self .exit) .below)) ⌝ }
     {
         self.pass(HELD_LIMIT);

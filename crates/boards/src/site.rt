@@ -5,7 +5,7 @@ ghost use Prim.Native.Nat.{ℕ, _<_, _%_};
 ghost use Rattle.boards.specs.Limits.{siteCount};
 ghost use Rattle.boards.specs.Faces.{Cleared, Settled, Takes, Refuses};
 ghost use Rattle.boards.specs.Copies.{copyAt, marked, NoSpan};
-ghost use Rattle.boards.specs.Sites.{siteFace, siteSound, SiteTold, SiteCarried};
+ghost use Rattle.boards.specs.Sites.{siteFace, siteSound, SiteTold, SiteCarried, SiteDoes};
 use crate::board::PriceBoard;
 use crate::copies::SITES;
 use crate::copies::SiteCopy;
@@ -35,6 +35,8 @@ pub impl PriceBoard for SiteBoard as SiteIsBoard {
     ghost face = { siteFace };
 
     ghost sound = { siteSound };
+
+    ghost step = { λ c a b. SiteDoes c (siteFace a) (siteFace b) };
 
     fn clear(&mut self, n: usize)
         ensures does { λ _. ⌜ Cleared n (siteFace (now (self .exit))) ⌝ }
