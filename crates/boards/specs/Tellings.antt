@@ -6,7 +6,9 @@ use Prim.Native.Nat.{ℕ, _<_, _≤_}
 use lib.Dec.{eqb}
 use lib.ListN.{length, getD}
 use Rattle.boards.specs.declared.tellings.Telling.{Telling}
-use Rattle.boards.specs.Calls.{Call, tells}
+use Rattle.boards.specs.declared.board.PriceBoard.{Ghosts as OfBoard}
+use Rattle.boards.specs.Calls.{Call, tells, Run}
+use Rattle.boards.specs.Faces.{BoardDoes}
 
 -- the price of the newest telling for seat k, or x where there is none
 abbrev pub newest : List Telling → ℕ → ℕ → ℕ
@@ -30,6 +32,12 @@ call t = tells (t .seat) (t .price)
 -- tellings as calls, in order
 abbrev pub calls : List Telling → List Call
 calls ts = map call ts
+
+-- tellings were told to a, which became b: by the board's own tells in order, and on a sound board by every board's rules
+pub record Passed {B : Type 0} (board : OfBoard B) (ts : List Telling) (a b : B) : Type 0 where
+  pub own : Run (board .step) (calls ts) a b
+  pub does : board .sound a → Run BoardDoes (calls ts) (board .face a) (board .face b)
+  pub safe : board .sound a → board .sound b
 
 -- the telling at a place of a list
 abbrev pub tellingAt : List Telling → ℕ → Telling

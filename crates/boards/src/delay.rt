@@ -7,9 +7,9 @@ ghost use Rattle.std.specs.Orderings.{Decides};
 ghost use Rattle.std.specs.Of.Vec.{vec-items, vec-len, vec-cap};
 ghost use Rattle.std.specs.Vec.{made};
 ghost use Rattle.boards.specs.Limits.{heldLimit};
-ghost use Rattle.boards.specs.Calls.{Run, clears, tells, carries, settles};
+ghost use Rattle.boards.specs.Calls.{clears, tells, carries, settles};
 ghost use Rattle.boards.specs.Faces.{Takes, BoardDoes};
-ghost use Rattle.boards.specs.Tellings.{newest, calls};
+ghost use Rattle.boards.specs.Tellings.{newest, Passed};
 ghost use Rattle.boards.specs.Layers.{layerOf, overFace, delayFace, due, DelaySound, LayerDoes};
 use crate::board::PriceBoard;
 use crate::states::Delay;
@@ -70,12 +70,8 @@ impl<B: PriceBoard> Delay<B> {
     // Tells the board below the oldest tellings in order, `count` of them or all if fewer, and holds them no more.
     fn pass(&mut self, count: usize)
         ensures held { λ _. ⌜ vec-items (now (self .exit) .held) ≡ drop count (vec-items (now (self .entry) .held)) ⌝ }
-        ensures own { λ _. ⌜ Run (B·PriceBoard .step) (calls (take count (vec-items (now (self .entry) .held)))) (now (self .entry) .below) (now (self .exit) .below) ⌝ }
-        ensures does { λ _. ⌜ (B·PriceBoard .sound (now (self .entry) .below) → Run BoardDoes (calls (take count (vec-items (now (self .entry) .held)))) (B·PriceBoard .face (now (self .entry) .below)) (B·PriceBoard .face (now (self .exit) .below))) ⌝ }
-        ensures safe { λ _. ⌜ (B·PriceBoard .sound (now (self .entry) .below) → B·PriceBoard .sound (now (self .exit) .below)) ⌝ }
-        ensures emptied { λ _. ⌜ (vec-len (now (self .entry) .held) ≤ count → vec-items (now (self .exit) .held) ≡ []) ⌝ }
-        ensures ownall { λ _. ⌜ (vec-len (now (self .entry) .held) ≤ count → Run (B·PriceBoard .step) (calls (vec-items (now (self .entry) .held))) (now (self .entry) .below) (now (self .exit) .below)) ⌝ }
-        ensures doesall { λ _. ⌜ (vec-len (now (self .entry) .held) ≤ count → B·PriceBoard .sound (now (self .entry) .below) → Run BoardDoes (calls (vec-items (now (self .entry) .held))) (B·PriceBoard .face (now (self .entry) .below)) (B·PriceBoard .face (now (self .exit) .below))) ⌝ }
+        ensures below { λ _. ⌜ Passed B·PriceBoard (take count (vec-items (now (self .entry) .held))) (now (self .entry) .below) (now (self .exit) .below) ⌝ }
+        ensures all { λ _. ⌜ (vec-len (now (self .entry) .held) ≤ count → (vec-items (now (self .exit) .held) ≡ []) × Passed B·PriceBoard (vec-items (now (self .entry) .held)) (now (self .entry) .below) (now (self .exit) .below)) ⌝ }
     {
         let passing = count.min(self.held.len());
         tell_all(&mut self.below, &self.held[..passing]);
@@ -85,9 +81,7 @@ impl<B: PriceBoard> Delay<B> {
     // Passes the oldest telling down where the layer is full.
     fn make_room(&mut self)
         ensures held { λ _. ⌜ vec-items (now (self .exit) .held) ≡ drop (due (vec-items (now (self .entry) .held))) (vec-items (now (self .entry) .held)) ⌝ }
-        ensures own { λ _. ⌜ Run (B·PriceBoard .step) (calls (take (due (vec-items (now (self .entry) .held))) (vec-items (now (self .entry) .held)))) (now (self .entry) .below) (now (self .exit) .below) ⌝ }
-        ensures does { λ _. ⌜ (B·PriceBoard .sound (now (self .entry) .below) → Run BoardDoes (calls (take (due (vec-items (now (self .entry) .held))) (vec-items (now (self .entry) .held)))) (B·PriceBoard .face (now (self .entry) .below)) (B·PriceBoard .face (now (self .exit) .below))) ⌝ }
-        ensures safe { λ _. ⌜ (B·PriceBoard .sound (now (self .entry) .below) → B·PriceBoard .sound (now (self .exit) .below)) ⌝ }
+        ensures below { λ _. ⌜ Passed B·PriceBoard (take (due (vec-items (now (self .entry) .held))) (vec-items (now (self .entry) .held))) (now (self .entry) .below) (now (self .exit) .below) ⌝ }
         ensures room { λ _. ⌜ vec-len (now (self .exit) .held) < heldLimit ⌝ }
     {
         let passing = passing_for_one(self.held.len());

@@ -7,9 +7,7 @@ use native.Mathlib.Omega.{arith}
 use Rattle.std.specs.Of.Vec.{vec-items, vec-len}
 use Rattle.std.proofs.shelf.Lists.{take-all, drop-all}
 use Rattle.boards.specs.declared.tellings.Telling.{Telling}
-use Rattle.boards.specs.Calls.{Run}
-use Rattle.boards.specs.Faces.{BoardDoes}
-use Rattle.boards.specs.Tellings.{calls}
+use Rattle.boards.specs.Tellings.{Passed}
 use Rattle.boards.proofs.Held.{take-min, drop-min}
 use Rattle.boards.proofs.states.Delay.pass.Needs as need
 
@@ -17,8 +15,7 @@ pub returns : need.returns
 returns g c =
     let ts : List Telling = vec-items (c .args .self .now .held) in
     let n : ℕ = c .args .count in
-    let Own : List Telling → Type 0 = λ us. Run (g .B·PriceBoard .step) (calls us) (c .args .self .now .below) (c .tell-all .last .board) in
-    let Does : List Telling → Type 0 = λ us. Run BoardDoes (calls us) (g .B·PriceBoard .face (c .args .self .now .below)) (g .B·PriceBoard .face (c .tell-all .last .board)) in
+    let Told : List Telling → Type 0 = λ us. Passed (g .B·PriceBoard) us (c .args .self .now .below) (c .tell-all .last .board) in
     let least : c .min-passing .result ≡ min n (length ts) = search needs in
     let passing : take (c .min-passing .result) (c .deref .result .now) ≡ take n ts =
           ap (λ (us : List Telling). take (c .min-passing .result) us) (c .deref .ensures .value) ∙ ap (λ (m : ℕ). take m ts) least ∙ take-min n ts in
@@ -26,10 +23,6 @@ returns g c =
     let all : vec-len (c .args .self .now .held) ≤ n → length ts ≤ n = λ few. omega (arith, c .args .self .now .held .ok .0) in
     record {
       held = left;
-      own = subst Own passing (c .tell-all .ensures .own);
-      does = λ s. subst Does passing (c .tell-all .ensures .does s);
-      safe = c .tell-all .ensures .safe;
-      emptied = λ few. left ∙ drop-all n ts (all few);
-      ownall = λ few. subst Own (passing ∙ take-all n ts (all few)) (c .tell-all .ensures .own);
-      doesall = λ few s. subst Does (passing ∙ take-all n ts (all few)) (c .tell-all .ensures .does s)
+      below = subst Told passing (c .tell-all .ensures);
+      all = λ few. (left ∙ drop-all n ts (all few), subst Told (passing ∙ take-all n ts (all few)) (c .tell-all .ensures))
     }
