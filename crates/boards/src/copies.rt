@@ -4,7 +4,7 @@ ghost use mathlib.Core.Logic.{_⊎_, _≢_};
 ghost use Prim.Native.Nat.{ℕ, _+_, _<_, _≤_};
 ghost use Rattle.boards.specs.Limits.{seatLimit, siteCount};
 ghost use Rattle.boards.specs.Rows.{at};
-ghost use Rattle.boards.specs.Copies.{copyAt, marked, BroughtUp, Short, blank};
+ghost use Rattle.boards.specs.Copies.{copyAt, marked, BroughtUp, Short, Blank};
 use crate::rows::PriceRow;
 use crate::rows::SEAT_LIMIT;
 
@@ -21,8 +21,8 @@ pub struct SiteCopy {
 
 impl SiteCopy {
     // A copy of zeros that lies behind nowhere.
-    pub fn new() -> Self
-        ensures { λ r. ⌜ blank r ⌝ }
+    pub(crate) fn new() -> Self
+        ensures { λ r. ⌜ Blank r ⌝ }
     {
         SiteCopy {
             row: PriceRow::new(),
@@ -41,7 +41,7 @@ impl SiteCopy {
     }
 
     // Copies the told prices wherever this copy may lie behind.
-    pub fn bring_up(&mut self, told: &PriceRow)
+    fn bring_up(&mut self, told: &PriceRow)
         requires { ⌜ now self .to ≤ seatLimit ⌝ }
         ensures { λ _. ⌜ BroughtUp (now (told .entry)) (now (self .entry)) (now (self .exit)) ⌝ }
     {
@@ -54,7 +54,7 @@ impl SiteCopy {
 }
 
 // Notes at every site that a price was told at a seat.
-pub fn mark_all(copies: &mut [SiteCopy; SITES], seat: usize)
+pub(crate) fn mark_all(copies: &mut [SiteCopy; SITES], seat: usize)
     requires { ⌜ seat < seatLimit ⌝ }
     ensures { λ _. ⌜ ((c : ℕ) → c < siteCount → copyAt (now (copies .exit)) c ≡ marked (copyAt (now (copies .entry)) c) seat) ⌝ }
 {
@@ -64,7 +64,7 @@ pub fn mark_all(copies: &mut [SiteCopy; SITES], seat: usize)
 }
 
 // Copies the told prices wherever the copy of one site may lie behind.
-pub fn bring_one_up(copies: &mut [SiteCopy; SITES], told: &PriceRow, site: usize)
+pub(crate) fn bring_one_up(copies: &mut [SiteCopy; SITES], told: &PriceRow, site: usize)
     requires short { ⌜ Short (now copies) ⌝ }
     requires within { ⌜ site < siteCount ⌝ }
     ensures here { λ _. ⌜ BroughtUp (now (told .entry)) (copyAt (now (copies .entry)) site) (copyAt (now (copies .exit)) site) ⌝ }
@@ -74,7 +74,7 @@ pub fn bring_one_up(copies: &mut [SiteCopy; SITES], told: &PriceRow, site: usize
 }
 
 // Copies the told prices wherever a site's copy may lie behind.
-pub fn bring_all_up(copies: &mut [SiteCopy; SITES], told: &PriceRow)
+pub(crate) fn bring_all_up(copies: &mut [SiteCopy; SITES], told: &PriceRow)
     requires { ⌜ Short (now copies) ⌝ }
     ensures { λ _. ⌜ ((c : ℕ) → c < siteCount → BroughtUp (now (told .entry)) (copyAt (now (copies .entry)) c) (copyAt (now (copies .exit)) c)) ⌝ }
 {

@@ -42,7 +42,7 @@ impl PriceRow {
     }
 
     // Whether a board of this size with these told prices takes a telling.
-    pub fn takes(&self, size: usize, seat: usize, x: u64) -> bool
+    pub(crate) fn takes(&self, size: usize, seat: usize, x: u64) -> bool
         requires { ⌜ size ≤ seatLimit ⌝ }
         ensures { λ r. ⌜ Decides r ((seat < size) × (at (now (self .entry)) seat ≤ x)) ⌝ }
     {
@@ -51,7 +51,7 @@ impl PriceRow {
 }
 
 // The size of a board that is cleared to n seats: none where n is over the limit.
-pub fn size_after_clear(n: usize) -> usize
+pub(crate) fn size_after_clear(n: usize) -> usize
     ensures sized { λ r. ⌜ (n ≤ seatLimit → r ≡ n) ⌝ }
     ensures emptied { λ r. ⌜ (seatLimit < n → r ≡ 0) ⌝ }
     ensures few { λ r. ⌜ r ≤ seatLimit ⌝ }

@@ -51,7 +51,7 @@ pub impl PriceBoard for SiteBoard as SiteIsBoard {
     // Reaches no copy: each only notes the seat in its span.
     fn tell(&mut self, seat: usize, x: u64)
         ensures safe { λ _. ⌜ (siteSound (now (self .entry)) → siteSound (now (self .exit))) ⌝ }
-        ensures exact { λ _. ⌜ SiteTold (siteFace (now (self .entry))) (siteFace (now (self .exit))) seat x ⌝ }
+        ensures own { λ _. ⌜ SiteTold (siteFace (now (self .entry))) (siteFace (now (self .exit))) seat x ⌝ }
         ensures noted { λ _. ⌜ (Takes (siteFace (now (self .entry))) seat x → (c : ℕ) → c < siteCount → copyAt (now (self .exit) .copies) c ≡ marked (copyAt (now (self .entry) .copies) c) seat) ⌝ }
         ensures refused { λ _. ⌜ (Refuses (siteFace (now (self .entry))) seat x → now (self .exit) .copies ≡ now (self .entry) .copies) ⌝ }
     {
@@ -84,7 +84,7 @@ pub impl PriceBoard for SiteBoard as SiteIsBoard {
     // Brings the copy of site r mod 8 up to the told prices.
     fn carry(&mut self, r: usize)
         ensures safe { λ _. ⌜ (siteSound (now (self .entry)) → siteSound (now (self .exit))) ⌝ }
-        ensures exact { λ _. ⌜ SiteCarried (siteFace (now (self .entry))) (siteFace (now (self .exit))) r ⌝ }
+        ensures own { λ _. ⌜ SiteCarried (siteFace (now (self .entry))) (siteFace (now (self .exit))) r ⌝ }
         ensures here { λ _. ⌜ NoSpan (copyAt (now (self .exit) .copies) (r % siteCount)) ⌝ }
         ensures elsewhere { λ _. ⌜ ((c : ℕ) → c ≢ r % siteCount → copyAt (now (self .exit) .copies) c ≡ copyAt (now (self .entry) .copies) c) ⌝ }
     {
@@ -94,7 +94,7 @@ pub impl PriceBoard for SiteBoard as SiteIsBoard {
     // Brings every copy up to the told prices.
     fn settle(&mut self)
         ensures safe { λ _. ⌜ (siteSound (now (self .entry)) → siteSound (now (self .exit))) ⌝ }
-        ensures exact { λ _. ⌜ Settled (siteFace (now (self .entry))) (siteFace (now (self .exit))) ⌝ }
+        ensures own { λ _. ⌜ Settled (siteFace (now (self .entry))) (siteFace (now (self .exit))) ⌝ }
         ensures everywhere { λ _. ⌜ ((c : ℕ) → c < siteCount → NoSpan (copyAt (now (self .exit) .copies) c)) ⌝ }
     {
         bring_all_up(&mut self.copies, &self.told);
