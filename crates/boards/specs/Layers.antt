@@ -6,9 +6,10 @@ use lib.ListN.{length, take, drop}
 use Rattle.std.specs.Of.Vec.{vec-items}
 use Rattle.boards.specs.declared.tellings.Telling.{Telling}
 use Rattle.boards.specs.declared.states.Delay.{Delay}
+use Rattle.boards.specs.declared.board.PriceBoard.{Ghosts as OfBoard}
 use Rattle.boards.specs.Limits.{heldLimit}
 use Rattle.boards.specs.Calls.{Call, clears, tells, carries, settles, Run}
-use Rattle.boards.specs.Faces.{Face, Takes, Refuses, within}
+use Rattle.boards.specs.Faces.{Face, Takes, Refuses, BoardDoes, within}
 use Rattle.boards.specs.Tellings.{newest, Seated, Climbs, Rise, Above, calls}
 
 -- the board below, or what it means, and the tellings held back from it, the oldest first
@@ -32,18 +33,10 @@ layerFace l = record {
   shown = l .below .shown
 }
 
--- what a delay layer means
-abbrev pub delayFace : {B : Type 0} → (B → Face) → Delay B → Face
-delayFace face d = layerFace (overFace face (layerOf d))
-
 -- the held seats are below the size, and the tellings of each never fall, from the told price below upward
 pub record Steady (l : Layer Face) : Type 0 where
   pub seated : Seated (l .below .size) (l .held)
   pub climbs : (k : ℕ) → Climbs (l .held) k (l .below .told k)
-
--- a delay layer is sound when the board below is, and the layer is steady
-abbrev pub DelaySound : {B : Type 0} → (B → Face) → (B → Type 0) → Delay B → Type 0
-DelaySound face sound d = sound (d .below) × Steady (overFace face (layerOf d))
 
 -- how many tellings pass down before one more is held: one where as many as may be are held, else none
 abbrev pub due : List Telling → ℕ
@@ -79,6 +72,22 @@ LayerDoes face Does (clears n) l m = LayerCleared Does l m n
 LayerDoes face Does (tells k x) l m = LayerTold face Does l m k x
 LayerDoes face Does (carries r) l m = LayerCarried Does l m r
 LayerDoes face Does settles l m = LayerSettled Does l m
+
+-- what a delay layer over a board means
+abbrev pub delayFace : {B : Type 0} → OfBoard B → Delay B → Face
+delayFace board d = layerFace (overFace (board .face) (layerOf d))
+
+-- a delay layer is sound when the board below is, and the layer is steady
+abbrev pub DelaySound : {B : Type 0} → OfBoard B → Delay B → Type 0
+DelaySound board d = board .sound (d .below) × Steady (overFace (board .face) (layerOf d))
+
+-- all that a call does to a delay layer, by what calls do to the board below
+abbrev pub DelayDoes : {B : Type 0} → OfBoard B → Call → Delay B → Delay B → Type 0
+DelayDoes board c d e = LayerDoes (board .face) (board .step) c (layerOf d) (layerOf e)
+
+-- what a call does to a delay layer over a sound board, by what the board below means
+abbrev pub DelayKeeps : {B : Type 0} → OfBoard B → Call → Delay B → Delay B → Type 0
+DelayKeeps board c d e = LayerDoes (λ f. f) BoardDoes c (overFace (board .face) (layerOf d)) (overFace (board .face) (layerOf e))
 
 -- in a steady layer the tellings held for a seat rise from oldest to newest, and none is below the told price below
 pub record Held-tellings-rise : Type 0 where

@@ -8,9 +8,9 @@ ghost use Rattle.std.specs.Of.Vec.{vec-items, vec-len, vec-cap};
 ghost use Rattle.std.specs.Vec.{made};
 ghost use Rattle.boards.specs.Limits.{heldLimit};
 ghost use Rattle.boards.specs.Calls.{clears, tells, carries, settles};
-ghost use Rattle.boards.specs.Faces.{Takes, BoardDoes};
+ghost use Rattle.boards.specs.Faces.{Takes};
 ghost use Rattle.boards.specs.Tellings.{newest, Passed};
-ghost use Rattle.boards.specs.Layers.{layerOf, overFace, delayFace, due, DelaySound, LayerDoes};
+ghost use Rattle.boards.specs.Layers.{due, delayFace, DelaySound, DelayDoes, DelayKeeps};
 use crate::board::PriceBoard;
 use crate::states::Delay;
 use crate::tellings::Telling;
@@ -25,7 +25,7 @@ impl<B: PriceBoard + Drop> Delay<B> {
     // A layer over a board, with nothing held; it is sound where the board below is.
     pub fn new(heap: Global, below: B) -> Result<Self, AllocError>
         ensures state { λ r. ⌜ made r (λ d. (d .below ≡ below) × (vec-items (d .held) ≡ [])) ⌝ }
-        ensures safe { λ r. ⌜ made r (λ d. B·PriceBoard .sound below → DelaySound (B·PriceBoard .face) (B·PriceBoard .sound) d) ⌝ }
+        ensures safe { λ r. ⌜ made r (λ d. B·PriceBoard .sound below → DelaySound B·PriceBoard d) ⌝ }
     {
         let held = Vec::with_capacity(heap, HELD_LIMIT)?;
         Ok(Delay { below, held })
@@ -62,7 +62,7 @@ impl<B: PriceBoard> Delay<B> {
 
     // Whether the layer takes a telling, by its own told price and not by that of the board below.
     fn takes(&self, seat: usize, x: u64) -> bool
-        ensures { λ r. ⌜ Decides r (Takes (delayFace (B·PriceBoard .face) (now (self .entry))) seat x) ⌝ }
+        ensures { λ r. ⌜ Decides r (Takes (delayFace B·PriceBoard (now (self .entry))) seat x) ⌝ }
     {
         seat < self.below.size() && x >= self.latest(seat)
     }
@@ -112,15 +112,15 @@ fn drop_oldest(held: &mut Vec<Telling>, count: usize)
 }
 
 pub impl<B: PriceBoard> PriceBoard for Delay<B> as DelayIsBoard {
-    ghost face = { delayFace (B·PriceBoard .face) };
+    ghost face = { delayFace B·PriceBoard };
 
-    ghost sound = { DelaySound (B·PriceBoard .face) (B·PriceBoard .sound) };
+    ghost sound = { DelaySound B·PriceBoard };
 
-    ghost step = { λ c d e. LayerDoes (B·PriceBoard .face) (B·PriceBoard .step) c (layerOf d) (layerOf e) };
+    ghost step = { DelayDoes B·PriceBoard };
 
     fn clear(&mut self, n: usize)
-        ensures own { λ _. ⌜ LayerDoes (B·PriceBoard .face) (B·PriceBoard .step) (clears n) (layerOf (now (self .entry))) (layerOf (now (self .exit))) ⌝ }
-        ensures does { λ _. ⌜ LayerDoes (λ f. f) BoardDoes (clears n) (overFace (B·PriceBoard .face) (layerOf (now (self .entry)))) (overFace (B·PriceBoard .face) (layerOf (now (self .exit)))) ⌝ }
+        ensures own { λ _. ⌜ DelayDoes B·PriceBoard (clears n) (now (self .entry)) (now (self .exit)) ⌝ }
+        ensures does { λ _. ⌜ DelayKeeps B·PriceBoard (clears n) (now (self .entry)) (now (self .exit)) ⌝ }
         ensures safe { λ _. ⌜ B·PriceBoard .sound (now (self .exit) .below) ⌝ }
     {
         self.held.clear();
@@ -129,8 +129,8 @@ pub impl<B: PriceBoard> PriceBoard for Delay<B> as DelayIsBoard {
 
     // A telling that is taken is held as the newest.
     fn tell(&mut self, seat: usize, x: u64)
-        ensures own { λ _. ⌜ LayerDoes (B·PriceBoard .face) (B·PriceBoard .step) (tells seat x) (layerOf (now (self .entry))) (layerOf (now (self .exit))) ⌝ }
-        ensures does { λ _. ⌜ (B·PriceBoard .sound (now (self .entry) .below) → LayerDoes (λ f. f) BoardDoes (tells seat x) (overFace (B·PriceBoard .face) (layerOf (now (self .entry)))) (overFace (B·PriceBoard .face) (layerOf (now (self .exit))))) ⌝ }
+        ensures own { λ _. ⌜ DelayDoes B·PriceBoard (tells seat x) (now (self .entry)) (now (self .exit)) ⌝ }
+        ensures does { λ _. ⌜ (B·PriceBoard .sound (now (self .entry) .below) → DelayKeeps B·PriceBoard (tells seat x) (now (self .entry)) (now (self .exit))) ⌝ }
         ensures safe { λ _. ⌜ (B·PriceBoard .sound (now (self .entry) .below) → B·PriceBoard .sound (now (self .exit) .below)) ⌝ }
     {
         if self.takes(seat, x) {
@@ -157,8 +157,8 @@ pub impl<B: PriceBoard> PriceBoard for Delay<B> as DelayIsBoard {
 
     // Passes the r oldest tellings down, or all if fewer, and carries r below.
     fn carry(&mut self, r: usize)
-        ensures own { λ _. ⌜ LayerDoes (B·PriceBoard .face) (B·PriceBoard .step) (carries r) (layerOf (now (self .entry))) (layerOf (now (self .exit))) ⌝ }
-        ensures does { λ _. ⌜ (B·PriceBoard .sound (now (self .entry) .below) → LayerDoes (λ f. f) BoardDoes (carries r) (overFace (B·PriceBoard .face) (layerOf (now (self .entry)))) (overFace (B·PriceBoard .face) (layerOf (now (self .exit))))) ⌝ }
+        ensures own { λ _. ⌜ DelayDoes B·PriceBoard (carries r) (now (self .entry)) (now (self .exit)) ⌝ }
+        ensures does { λ _. ⌜ (B·PriceBoard .sound (now (self .entry) .below) → DelayKeeps B·PriceBoard (carries r) (now (self .entry)) (now (self .exit))) ⌝ }
         ensures safe { λ _. ⌜ (B·PriceBoard .sound (now (self .entry) .below) → B·PriceBoard .sound (now (self .exit) .below)) ⌝ }
     {
         self.pass(r);
@@ -167,8 +167,8 @@ pub impl<B: PriceBoard> PriceBoard for Delay<B> as DelayIsBoard {
 
     // Passes all tellings down, and settles the board below.
     fn settle(&mut self)
-        ensures own { λ _. ⌜ LayerDoes (B·PriceBoard .face) (B·PriceBoard .step) settles (layerOf (now (self .entry))) (layerOf (now (self .exit))) ⌝ }
-        ensures does { λ _. ⌜ (B·PriceBoard .sound (now (self .entry) .below) → LayerDoes (λ f. f) BoardDoes settles (overFace (B·PriceBoard .face) (layerOf (now (self .entry)))) (overFace (B·PriceBoard .face) (layerOf (now (self .exit))))) ⌝ }
+        ensures own { λ _. ⌜ DelayDoes B·PriceBoard settles (now (self .entry)) (now (self .exit)) ⌝ }
+        ensures does { λ _. ⌜ (B·PriceBoard .sound (now (self .entry) .below) → DelayKeeps B·PriceBoard settles (now (self .entry)) (now (self .exit))) ⌝ }
         ensures safe { λ _. ⌜ (B·PriceBoard .sound (now (self .entry) .below) → B·PriceBoard .sound (now (self .exit) .below)) ⌝ }
     {
         self.pass(HELD_LIMIT);
