@@ -40,13 +40,6 @@ impl<B: PriceBoard> Delay<B> {
         &self.below
     }
 
-    // How many tellings are held.
-    pub fn held(&self) -> usize
-        ensures { λ r. ⌜ r ≡ vec-len (now (self .entry) .held) ⌝ }
-    {
-        self.held.len()
-    }
-
     // The price of the newest telling held for a seat, else the told price below.
     fn latest(&self, seat: usize) -> u64
         ensures { λ r. ⌜ r ≡ newest (vec-items (now (self .entry) .held)) seat (B·PriceBoard .face (now (self .entry) .below) .told seat) ⌝ }
