@@ -8,3 +8,4 @@ pub mod Sites
 pub mod Tellings
 pub mod Layers
 pub mod Cases
+pub mod Piles

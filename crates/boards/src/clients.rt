@@ -3,6 +3,7 @@ ghost use mathlib.Core.Path.{_≡_};
 ghost use mathlib.Core.Logic.{_≢_};
 ghost use Prim.Native.Nat.{ℕ, _-_, _<_, _≤_};
 ghost use Rattle.boards.specs.Limits.{seatLimit};
+ghost use Rattle.boards.specs.Piles.{pileFace};
 use crate::board::PriceBoard;
 use crate::delay::DelayIsBoard;
 use crate::site::SiteIsBoard;
@@ -38,7 +39,10 @@ pub fn announce_through_layers(
     x: u64,
     run: usize,
 ) -> u64
-    ensures { λ r. ⌜ (n ≤ seatLimit → seat < n → run < n → r ≡ x) ⌝ }
+    ensures shown { λ r. ⌜ (n ≤ seatLimit → seat < n → run < n → r ≡ x) ⌝ }
+    ensures size { λ _. ⌜ (n ≤ seatLimit → pileFace (now (board .exit)) .size ≡ n) ⌝ }
+    ensures told { λ _. ⌜ (n ≤ seatLimit → seat < n → pileFace (now (board .exit)) .told seat ≡ x) ⌝ }
+    ensures others { λ _. ⌜ (n ≤ seatLimit → seat < n → (k : ℕ) → k ≢ seat → pileFace (now (board .exit)) .told k ≡ 0) ⌝ }
 {
     announce(board, n, seat, x, run)
 }
