@@ -30,7 +30,7 @@ abbrev pub layerFace : Layer Face → Face
 layerFace l = record {
   size = l .below .size;
   told = λ k. within (l .below .size) k (newest (l .held) k (l .below .told k));
-  shown = l .below .shown
+  shown = l .below .shown;
 }
 
 -- the held seats are below the size, and the tellings of each never fall, from the told price below upward

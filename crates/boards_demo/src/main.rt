@@ -32,7 +32,10 @@ fn lag<B: PriceBoard>(rt: &LibcRuntime, kind: &str, board: &mut B) -> Result<(),
 fn prices<B: PriceBoard>(rt: &LibcRuntime, when: &str, layer: &Delay<B>) -> Result<(), AnyError> {
     let own = layer.told(0);
     let below = layer.below().told(0);
-    println!(rt, "  {when}: the layer was told {own}, the board below {below}")?;
+    println!(
+        rt,
+        "  {when}: the layer was told {own}, the board below {below}"
+    )?;
     Ok(())
 }
 

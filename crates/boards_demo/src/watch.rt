@@ -21,7 +21,10 @@ fn read<B: PriceBoard>(board: &B) -> Reading
     ensures first { λ r. ⌜ r .first ≡ B·PriceBoard .face (now (board .entry)) .shown 0 1 ⌝ }
     ensures second { λ r. ⌜ r .second ≡ B·PriceBoard .face (now (board .entry)) .shown 1 1 ⌝ }
 {
-    Reading { first: board.shows(0, 1), second: board.shows(1, 1) }
+    Reading {
+        first: board.shows(0, 1),
+        second: board.shows(1, 1),
+    }
 }
 
 // Whatever the kind of board, both runs read the told price once it is settled.
@@ -35,7 +38,11 @@ pub fn watch<B: PriceBoard>(board: &mut B) -> Seen
     board.carry(1);
     let carried = read(board);
     board.settle();
-    Seen { told, carried, settled: read(board) }
+    Seen {
+        told,
+        carried,
+        settled: read(board),
+    }
 }
 
 // Two seats, and the prices 1 to `count` told at seat 0.

@@ -18,11 +18,11 @@ returns g c =
     let Told : List Telling → Type 0 = λ us. Passed (g .B·PriceBoard) us (c .args .self .now .below) (c .tell-all .last .board) in
     let least : c .min-passing .result ≡ min n (length ts) = search needs in
     let passing : take (c .min-passing .result) (c .deref .result .now) ≡ take n ts =
-          ap (λ (us : List Telling). take (c .min-passing .result) us) (c .deref .ensures .value) ∙ ap (λ (m : ℕ). take m ts) least ∙ take-min n ts in
+    ap (λ (us : List Telling). take (c .min-passing .result) us) (c .deref .ensures .value) ∙ ap (λ (m : ℕ). take m ts) least ∙ take-min n ts in
     let left : vec-items (c .drop-oldest .last .held) ≡ drop n ts = c .drop-oldest .ensures .held ∙ ap (λ (m : ℕ). drop m ts) least ∙ drop-min n ts in
     let all : vec-len (c .args .self .now .held) ≤ n → length ts ≤ n = λ few. omega (arith, c .args .self .now .held .ok .0) in
     record {
       held = left;
       below = subst Told passing (c .tell-all .ensures);
-      all = λ few. (left ∙ drop-all n ts (all few), subst Told (passing ∙ take-all n ts (all few)) (c .tell-all .ensures))
+      all = λ few. (left ∙ drop-all n ts (all few), subst Told (passing ∙ take-all n ts (all few)) (c .tell-all .ensures));
     }
