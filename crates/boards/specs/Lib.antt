@@ -1,0 +1,11 @@
+pub mod Limits
+pub mod Calls
+pub mod Faces
+pub mod Rows
+pub mod Copies
+pub mod Commons
+pub mod Sites
+pub mod Tellings
+pub mod Layers
+pub mod Cases
+pub mod Piles
