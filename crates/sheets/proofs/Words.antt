@@ -1,33 +1,19 @@
-<<<<<<< HEAD
 -- Fields of no bytes are 0, words of points are in range, and numbers are read one after the other.
 use Prim.Native.Nat.{ℕ, _+_, _≤_, _<_}
 use mathlib.Core.Path.{_≡_, refl, sym, ap, _∙_}
 use mathlib.Core.Bool.{Bool, true, cond}
 use mathlib.Core.List.{List, [], _∷_, _++_}
 use mathlib.Core.Logic.{inl, inr}
-=======
--- Fields of no bytes are 0, and words of points are in range.
-use Prim.Native.Nat.{ℕ, _≤_, _<_}
-use mathlib.Core.Path.{_≡_, refl}
-use mathlib.Core.Bool.{true}
-use mathlib.Core.List.{List, [], _∷_}
->>>>>>> 16be2d94faad2aba1bd840a19923277ff5d9e4a8
 use native.Mathlib.Omega.{arith}
 use borrow.Author.Differences.{ints}
 use lib.IntN.{ℤ, pos, negℤ}
 use lib.ListN.{length, getD, length-append}
 use lib.Signed.{leZ, _≤ℤ_}
-<<<<<<< HEAD
 use Rattle.std.proofs.shelf.Lists.{getD-at, getD-append-left}
 use Rattle.std.proofs.shelf.Tests.{and-parts, cases-lt}
-use Rattle.sheets.specs.Bytes.{le16, le32}
-use Rattle.sheets.specs.CertificateFiles.{Reads}
-use Rattle.sheets.specs.Headers.{sizeIn, spansIn, sheetTop, signed32, inRange}
-=======
-use Rattle.std.proofs.shelf.Tests.{and-parts}
 use Rattle.sheets.specs.Bytes.{le16}
+use Rattle.sheets.specs.CertificateFiles.{Reads}
 use Rattle.sheets.specs.Headers.{sizeIn, sheetTop, signed32, inRange}
->>>>>>> 16be2d94faad2aba1bd840a19923277ff5d9e4a8
 
 pub empty-size : (bs : List ℕ) → length bs ≡ 0 → sizeIn bs ≡ 0
 unfolding le16
