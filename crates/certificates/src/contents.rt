@@ -14,7 +14,7 @@ ghost use Rattle.certificates.specs.Certificates.{seatIn, priceIn, checkerFaul
 use crate::prices::checker_fault;
 use fault::causes::Cause;
 use fault::faults::Fault;
-use points::nets::net_points;
+use points::nets::scaled_points;
 use points::sources::PairSource;
 use points::sources::RowSource;
 
@@ -32,7 +32,7 @@ pub(crate) fn net_within(size: u16, points: i32, price: u64) -> i64
     ensures value { λ r. ⌜ r ≡ net size points price ⌝ }
     ensures bound { λ r. ⌜ r ≤ℤ pos 1000000000000000000 ⌝ }
 {
-    net_points(size, points, price)
+    scaled_points(size, points) - price as i64
 }
 
 // Whether a seat nets a run at most 1 more than its own, or is not allowed.
