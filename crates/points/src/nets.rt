@@ -14,6 +14,13 @@ pub fn scale(size: u16) -> i64
     i64::from(size) + 1
 }
 
+// Points times one more than the size.
+pub fn scaled_points(size: u16, points: i32) -> i64
+    ensures { λ r. ⌜ r ≡ scaled size points ⌝ }
+{
+    times(scale(size), size, points)
+}
+
 // A price, or the limit where it is over that.
 pub fn limited(price: u64) -> u64
     ensures { λ r. ⌜ r ≡ min price priceLimit ⌝ }
@@ -28,17 +35,18 @@ pub fn net_points(size: u16, points: i32, price: u64) -> i64
     net_within(size, points, limited(price))
 }
 
-// Points times one more than the size.
-pub(crate) fn scaled_points(size: u16, points: i32) -> i64
-    ensures { λ r. ⌜ r ≡ scaled size points ⌝ }
-{
-    scale(size) * i64::from(points)
-}
-
 // The net at a price within the limit.
 pub(crate) fn net_within(size: u16, points: i32, price: u64) -> i64
     requires { ⌜ price ≤ priceLimit ⌝ }
     ensures { λ r. ⌜ r ≡ net size points price ⌝ }
 {
     scaled_points(size, points) - price as i64
+}
+
+// Points times the scale of a size.
+pub(crate) fn times(factor: i64, size: u16, points: i32) -> i64
+    requires { ⌜ factor ≡ pos (size + 1) ⌝ }
+    ensures { λ r. ⌜ r ≡ scaled size points ⌝ }
+{
+    factor * i64::from(points)
 }

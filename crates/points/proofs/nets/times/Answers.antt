@@ -7,9 +7,9 @@ use mir.Val.{toZ, ofZ}
 use borrow.Author.Differences.{ints}
 use Rattle.points.specs.Nets.{scaled}
 use Rattle.points.proofs.Scales.{scaled-fits}
-use Rattle.points.proofs.nets.scaled_points.Needs as need
+use Rattle.points.proofs.nets.times.Needs as need
 
-by : (c : need.After-from) → toZ w64 (ofZ w64 (c .scale .result)) ≡ pos (c .args .size + 1)
+by : (c : need.After-from) → toZ w64 (ofZ w64 (c .args .factor)) ≡ pos (c .args .size + 1)
 by c = omega (arith, ints)
 
 of : (c : need.After-from) → toZ w64 (ofZ w64 (c .from .result)) ≡ c .args .points

@@ -1,0 +1,2 @@
+// The worked cases: one list of all layers, proved by one theorem, and run.
+pub mod theorems;
