@@ -14,12 +14,14 @@ use Rattle.points.specs.Tables.{Lawful}
 use Rattle.points.specs.Sums.{sum}
 use Rattle.points.specs.Nets.{scaled}
 use Rattle.sheets.specs.Bytes.{le16, le32}
-use Rattle.sheets.specs.Dense.{denseTable, denseChecks}
-use Rattle.sheets.specs.Kinds.{sheetTable}
-use Rattle.sheets.specs.Cases.{twoRuns}
+use Rattle.fault.specs.declared.causes.Cause.the-variants.{Length, Spans, NotContent, SeatTaken}
+use Rattle.sheets.specs.Headers.{sheetFault}
+use Rattle.sheets.specs.Kinds.{sheetChecks, sheetTable}
+use Rattle.sheets.specs.Sparse.{rowFrom, rowLen, spanFrom, spanLen, spanFirst}
+use Rattle.sheets.specs.Cases.{twoRuns, touching, joined, toTheEnd, pastTheEnd}
 use Rattle.sheets.proofs.Cells.{dense-lawful}
 use Rattle.sheets.proofs.Worked.{worked}
-use Rattle.certificates.specs.Certificates.{certificateChecks}
+use Rattle.certificates.specs.Certificates.{checkerFault, certificateChecks}
 use Rattle.certificates.proofs.Accepts.{accepted, refused}
 use Rattle.boards.specs.Cases as boards
 use Rattle.boards.proofs.Worked as boardly
@@ -37,6 +39,35 @@ boards-hold : (cs : List boards.Case) → boards.AllHold cs → All-hold (map bo
 boards-hold [] h = tt
 boards-hold (c ∷ cs) h = (h .0, boards-hold cs (h .1))
 
-lawful : Lawful (denseTable twoRuns)
+sheets-hold : All-hold sheet-cases
+unfolding le16 le32 sum rowFrom rowLen spanFrom spanLen spanFirst
+sheets-hold =
+    (faulted (sheetChecks []) (sheetFault Length 0) refl,
+    (kept-passes (sheetChecks twoRuns) refl,
+    (refl, (refl, (refl, (refl,
+    (kept-passes (sheetChecks touching) refl,
+    (refl, (refl, (refl, (refl,
+    (kept-passes (sheetChecks joined) refl,
+    (worked .joined-merged,
+    (kept-passes (sheetChecks toTheEnd) refl,
+    (faulted (sheetChecks pastTheEnd) (sheetFault Spans 42) refl, tt)))))))))))))))
+
+lawful : Lawful (sheetTable twoRuns)
 unfolding le16 le32
 lawful = dense-lawful twoRuns (λ h. refl)
+
+-- the rules of a certificate over the dense sheet of 2 runs
+abbrev rules : List ℕ → List ℕ → Checks
+rules seats prices = certificateChecks (sheetTable twoRuns) seats prices
+
+checker-holds : All-hold checker-cases
+unfolding le16 le32 scaled
+checker-holds =
+    let content : Fault = checkerFault NotContent (Some 0) (Some 0) in
+    let taken : Fault = checkerFault SeatTaken (Some 1) (Some 0) in
+    (accepted (sheetTable twoRuns) (1 ∷ 0 ∷ []) (10 ∷ 5 ∷ []) lawful (kept-passes (rules (1 ∷ 0 ∷ []) (10 ∷ 5 ∷ [])) refl) (pos 7) refl,
+    (refused (sheetTable twoRuns) (1 ∷ 0 ∷ []) (10 ∷ 7 ∷ []) lawful content (faulted (rules (1 ∷ 0 ∷ []) (10 ∷ 7 ∷ [])) content refl),
+    (refused (sheetTable twoRuns) (0 ∷ 0 ∷ []) (10 ∷ 5 ∷ []) lawful taken (faulted (rules (0 ∷ 0 ∷ []) (10 ∷ 5 ∷ [])) taken refl), tt)))
+
+pub worked-hold : All-hold worked-cases
+worked-hold = joined-lists sheet-cases (checker-cases ++ map board boards.cases) sheets-hold (joined-lists checker-cases (map board boards.cases) checker-holds (boards-hold boards.cases boardly.worked))
