@@ -18,9 +18,9 @@ use Rattle.fault.specs.declared.causes.Cause.the-variants.{Length, Spans, NotCo
 use Rattle.sheets.specs.Headers.{sheetFault}
 use Rattle.sheets.specs.Kinds.{sheetChecks, sheetTable}
 use Rattle.sheets.specs.Sparse.{rowFrom, rowLen, spanFrom, spanLen, spanFirst}
-use Rattle.sheets.specs.Cases.{twoRuns, touching, joined, toTheEnd, pastTheEnd}
+use Rattle.sheets.specs.Examples.{twoRuns, touching, joined, toTheEnd, pastTheEnd}
 use Rattle.sheets.proofs.Cells.{dense-lawful}
-use Rattle.sheets.proofs.Worked.{worked}
+use Rattle.sheets.proofs.Worked.{joined-merged}
 use Rattle.certificates.specs.Certificates.{checkerFault, certificateChecks}
 use Rattle.certificates.proofs.Accepts.{accepted, refused}
 use Rattle.boards.specs.Cases as boards
@@ -41,16 +41,49 @@ boards-hold (c ∷ cs) h = (h .0, boards-hold cs (h .1))
 
 sheets-hold : All-hold sheet-cases
 unfolding le16 le32 sum rowFrom rowLen spanFrom spanLen spanFirst
-sheets-hold =
-    (faulted (sheetChecks []) (sheetFault Length 0) refl,
-    (kept-passes (sheetChecks twoRuns) refl,
-    (refl, (refl, (refl, (refl,
-    (kept-passes (sheetChecks touching) refl,
-    (refl, (refl, (refl, (refl,
-    (kept-passes (sheetChecks joined) refl,
-    (worked .joined-merged,
-    (kept-passes (sheetChecks toTheEnd) refl,
-    (faulted (sheetChecks pastTheEnd) (sheetFault Spans 42) refl, tt)))))))))))))))
+sheets-hold = (
+  faulted (sheetChecks []) (sheetFault Length 0) refl,
+  (
+    kept-passes (sheetChecks twoRuns) refl,
+    (
+      refl,
+      (
+        refl,
+        (
+          refl,
+          (
+            refl,
+            (
+              kept-passes (sheetChecks touching) refl,
+              (
+                refl,
+                (
+                  refl,
+                  (
+                    refl,
+                    (
+                      refl,
+                      (
+                        kept-passes (sheetChecks joined) refl,
+                        (
+                          joined-merged,
+                          (
+                            kept-passes (sheetChecks toTheEnd) refl,
+                            (faulted (sheetChecks pastTheEnd) (sheetFault Spans 42) refl, tt),
+                          ),
+                        ),
+                      ),
+                    ),
+                  ),
+                ),
+              ),
+            ),
+          ),
+        ),
+      ),
+    ),
+  ),
+)
 
 lawful : Lawful (sheetTable twoRuns)
 unfolding le16 le32
@@ -64,10 +97,13 @@ checker-holds : All-hold checker-cases
 unfolding le16 le32 scaled
 checker-holds =
     let content : Fault = checkerFault NotContent (Some 0) (Some 0) in
-    let taken : Fault = checkerFault SeatTaken (Some 1) (Some 0) in
-    (accepted (sheetTable twoRuns) (1 ∷ 0 ∷ []) (10 ∷ 5 ∷ []) lawful (kept-passes (rules (1 ∷ 0 ∷ []) (10 ∷ 5 ∷ [])) refl) (pos 7) refl,
-    (refused (sheetTable twoRuns) (1 ∷ 0 ∷ []) (10 ∷ 7 ∷ []) lawful content (faulted (rules (1 ∷ 0 ∷ []) (10 ∷ 7 ∷ [])) content refl),
-    (refused (sheetTable twoRuns) (0 ∷ 0 ∷ []) (10 ∷ 5 ∷ []) lawful taken (faulted (rules (0 ∷ 0 ∷ []) (10 ∷ 5 ∷ [])) taken refl), tt)))
+    let taken : Fault = checkerFault SeatTaken (Some 1) (Some 0) in (
+      accepted (sheetTable twoRuns) (1 ∷ 0 ∷ []) (10 ∷ 5 ∷ []) lawful (kept-passes (rules (1 ∷ 0 ∷ []) (10 ∷ 5 ∷ [])) refl) (pos 7) refl,
+      (
+        refused (sheetTable twoRuns) (1 ∷ 0 ∷ []) (10 ∷ 7 ∷ []) lawful content (faulted (rules (1 ∷ 0 ∷ []) (10 ∷ 7 ∷ [])) content refl),
+        (refused (sheetTable twoRuns) (0 ∷ 0 ∷ []) (10 ∷ 5 ∷ []) lawful taken (faulted (rules (0 ∷ 0 ∷ []) (10 ∷ 5 ∷ [])) taken refl), tt),
+      ),
+    )
 
 pub worked-hold : All-hold worked-cases
 worked-hold = joined-lists sheet-cases (checker-cases ++ map board boards.cases) sheets-hold (joined-lists checker-cases (map board boards.cases) checker-holds (boards-hold boards.cases boardly.worked))

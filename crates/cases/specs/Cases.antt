@@ -11,7 +11,7 @@ use Rattle.fault.specs.Checks.{Passes, Refuses}
 use Rattle.sheets.specs.Headers.{sheetFault}
 use Rattle.sheets.specs.Kinds.{sheetChecks, sheetTable}
 use Rattle.sheets.specs.Merging.{Merged}
-use Rattle.sheets.specs.Cases.{twoRuns, touching, joined, toTheEnd, pastTheEnd}
+use Rattle.sheets.specs.Examples.{twoRuns, touching, joined, toTheEnd, pastTheEnd}
 use Rattle.certificates.specs.Certificates.{Accepted, Refused, checkerFault}
 use Rattle.boards.specs.Cases as boards
 

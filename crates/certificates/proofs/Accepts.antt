@@ -18,10 +18,12 @@ use Rattle.fault.specs.declared.faults.Fault.{Fault}
 use Rattle.fault.specs.Checks.{Passes, Refuses}
 use Rattle.fault.proofs.Once.{apart}
 use Rattle.points.specs.Tables.{Table, Pays, Lawful}
-use Rattle.points.specs.Nets.{net, priceLimit}
+use Rattle.points.specs.Limits.{priceLimit}
+use Rattle.points.specs.Nets.{net}
 use Rattle.points.specs.Plans.{FullPlan, AllContent, value, total}
 use Rattle.points.proofs.Optimal.{best}
-use Rattle.certificates.specs.Certificates.{sizeLimit, seatIn, priceIn, netsAtMost, heldNet, certificateChecks, Acceptable, Accepted, Refused}
+use Rattle.points.specs.Limits.{sizeLimit}
+use Rattle.certificates.specs.Certificates.{seatIn, priceIn, netsAtMost, heldNet, certificateChecks, Acceptable, Accepted, Refused}
 use Rattle.points.proofs.Rows.{allowed-below}
 
 at-most : (n x : ℕ) (v r : ℤ) (o : Option ℤ) → o ≡ Some r → netsAtMost n v o x ≡ true → net n r x ≤ℤ (v +ℤ pos 1)

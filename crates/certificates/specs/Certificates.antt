@@ -17,12 +17,9 @@ use Rattle.fault.specs.declared.faults.Fault.{Fault}
 use Rattle.fault.specs.Faults.{inPhase}
 use Rattle.fault.specs.Checks.{Checks, test, each, _then_, Passes, Refuses}
 use Rattle.points.specs.Tables.{Table}
-use Rattle.points.specs.Nets.{priceLimit, net}
+use Rattle.points.specs.Limits.{sizeLimit, priceLimit}
+use Rattle.points.specs.Nets.{net}
 use Rattle.points.specs.Plans.{FullPlan, Best, AllContent, value, total}
-
--- no table with more runs than this is checked
-abbrev pub sizeLimit : ℕ
-sizeLimit = 256
 
 -- the seat of run i, and the price of seat k
 abbrev pub seatIn : List ℕ → ℕ → ℕ

@@ -9,26 +9,28 @@ ghost use Rattle.std.specs.Results.{Cases};
 ghost use Rattle.std.specs.declared.option.Option.the-variants.{Some, None};
 ghost use Rattle.fault.specs.Checks.{Passes, Refuses};
 ghost use Rattle.fault.specs.declared.causes.Cause.the-variants.{NotAllowed};
+ghost use Rattle.points.specs.Limits.{sizeLimit};
 ghost use Rattle.points.specs.Plans.{total};
 ghost use Rattle.certificates.specs.Certificates.{seatIn, checkerFault, runChecks, planChecks};
 ghost use Rattle.certificates.specs.Marks.{Marked};
 use crate::prices::checker_fault;
 use fault::causes::Cause;
 use fault::faults::Fault;
+use points::limits::SIZE_LIMIT;
 use points::sources::PairSource;
 use points::sources::RowSource;
 
 // Whether a seat is marked.
-pub(crate) fn is_marked(marks: &[bool; 256], seat: usize) -> bool
-    requires { ⌜ seat < 256 ⌝ }
+pub(crate) fn is_marked(marks: &[bool; SIZE_LIMIT], seat: usize) -> bool
+    requires { ⌜ seat < sizeLimit ⌝ }
     ensures { λ r. ⌜ r ≡ getD (now (marks .entry)) seat false ⌝ }
 {
     marks[seat]
 }
 
 // Marks a seat.
-pub(crate) fn mark(marks: &mut [bool; 256], seat: usize)
-    requires { ⌜ seat < 256 ⌝ }
+pub(crate) fn mark(marks: &mut [bool; SIZE_LIMIT], seat: usize)
+    requires { ⌜ seat < sizeLimit ⌝ }
     ensures { λ _. ⌜ now (marks .exit) ≡ set (now (marks .entry)) seat true ⌝ }
 {
     marks[seat] = true;
@@ -56,10 +58,10 @@ pub(crate) fn check_run<S: RowSource>(
     source: &S,
     seats: &[u16],
     run: usize,
-    marks: &[bool; 256],
+    marks: &[bool; SIZE_LIMIT],
 ) -> Result<i32, Fault>
     requires run { ⌜ run < length (now seats) ⌝ }
-    requires size { ⌜ S·PairSource .table (now source) .size ≤ 256 ⌝ }
+    requires size { ⌜ S·PairSource .table (now source) .size ≤ sizeLimit ⌝ }
     requires marked { ⌜ Marked (now seats) run (now marks) ⌝ }
     ensures { λ r.
         ⌜ Cases r
@@ -84,13 +86,13 @@ pub(crate) fn add_points(sum: i64, points: i32) -> i64
 // The seats of all runs; answers the total of their points.
 pub(crate) fn check_plan<S: RowSource>(source: &S, seats: &[u16]) -> Result<i64, Fault>
     requires seated { ⌜ length (now seats) ≡ S·PairSource .table (now source) .size ⌝ }
-    requires size { ⌜ S·PairSource .table (now source) .size ≤ 256 ⌝ }
+    requires size { ⌜ S·PairSource .table (now source) .size ≤ sizeLimit ⌝ }
     ensures { λ r.
         ⌜ Cases r
         (λ a. Passes (planChecks (S·PairSource .table (now (source .entry))) (now (seats .entry))) × (a ≡ total (S·PairSource .table (now (source .entry))) (seatIn (now (seats .entry)))))
         (λ f. Refuses (planChecks (S·PairSource .table (now (source .entry))) (now (seats .entry))) f) ⌝ }
 {
-    let mut marks = [false; 256];
+    let mut marks = [false; SIZE_LIMIT];
     let mut sum: i64 = 0;
     for run in 0..seats.len() {
         let points = check_run(source, seats, run, &marks)?;

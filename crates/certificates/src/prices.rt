@@ -8,10 +8,8 @@ ghost use Rattle.certificates.specs.Certificates.{checkerFault, sizeChecks, pr
 use fault::causes::Cause;
 use fault::faults::Fault;
 use fault::layers::Layer;
-use points::nets::PRICE_LIMIT;
-
-// No table with more runs than this is checked.
-pub(crate) const SIZE_LIMIT: usize = 256;
+use points::limits::PRICE_LIMIT;
+use points::limits::SIZE_LIMIT;
 
 // A fault of the checker.
 pub(crate) fn checker_fault(cause: Cause, run: Option<usize>, seat: Option<usize>) -> Fault

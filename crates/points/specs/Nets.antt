@@ -4,10 +4,6 @@ use lib.IntN.{ℤ, pos, _+ℤ_, _-ℤ_, _*ℤ_}
 use lib.Signed.{_≤ℤ_}
 use Rattle.points.specs.Tables.{Table, Pays}
 
--- the greatest price that is taken
-abbrev pub priceLimit : ℕ
-priceLimit = 4000000000000000
-
 -- points times one more than the size
 unfoldable pub scaled : ℕ → ℤ → ℤ
 scaled n p = pos (n + 1) *ℤ p

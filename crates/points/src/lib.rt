@@ -1,4 +1,5 @@
 // Sources of points: pair sources, row sources, and the arithmetic of nets.
+pub mod limits;
 pub mod nets;
 pub mod sources;
 pub mod summaries;

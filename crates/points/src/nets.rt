@@ -2,10 +2,9 @@
 ghost use mathlib.Core.Path.{_≡_};
 ghost use Prim.Native.Nat.{min, _+_, _≤_};
 ghost use lib.IntN.{pos};
-ghost use Rattle.points.specs.Nets.{priceLimit, scaled, net};
-
-// The greatest price, in scaled points, that is taken.
-pub const PRICE_LIMIT: u64 = 4_000_000_000_000_000;
+ghost use Rattle.points.specs.Limits.{priceLimit};
+ghost use Rattle.points.specs.Nets.{scaled, net};
+use crate::limits::PRICE_LIMIT;
 
 // What points are scaled by: one more than the size, so that totals a point apart are more than the size apart.
 pub fn scale(size: u16) -> i64

@@ -1,6 +1,7 @@
 // What a source of points answers, for every kind of source.
 ghost use mathlib.Core.Path.{_≡_};
 ghost use Prim.Native.Nat.{ℕ, _≤_};
+ghost use Rattle.points.specs.Limits.{topLimit};
 ghost use Rattle.points.specs.Tables.{Table, Lawful, Next};
 
 // A table of points by run and seat, some pairs of which are not allowed.
@@ -12,7 +13,7 @@ pub trait PairSource {
 
     ghost table: { Self → Table };
 
-    law limits: { (1 ≤ top) × (top ≤ 1000000) };
+    law limits: { (1 ≤ top) × (top ≤ topLimit) };
 
     law topped: { (s : Self) → table s .top ≡ top };
 

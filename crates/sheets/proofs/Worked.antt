@@ -1,4 +1,4 @@
--- The worked cases, computed.
+-- The touching spans of an example, merged.
 use Prim.Native.Nat.{ℕ, zero, suc, _<_}
 use mathlib.Core.Path.{_≡_, refl}
 use native.Mathlib.Omega.{arith}
@@ -7,7 +7,7 @@ use Rattle.points.specs.Sums.{sum}
 use Rattle.sheets.specs.Sparse.{rowFrom, rowLen, spanFrom, spanLen, spanFirst, coveredBefore, pointWord}
 use Rattle.sheets.specs.Headers.{sizeIn, spansIn}
 use Rattle.sheets.specs.Merging.{Merged}
-use Rattle.sheets.specs.Cases.{touching, joined, Worked-cases}
+use Rattle.sheets.specs.Examples.{touching, joined}
 
 others : (r : ℕ) → r < sizeIn touching → (r ≡ 0 → ⊥) → rowLen joined r ≡ rowLen touching r
 unfolding le16 le32 rowLen
@@ -24,7 +24,7 @@ points (suc zero) h = refl
 points (suc (suc zero)) h = refl
 points (suc (suc (suc p))) h = absurd (omega arith)
 
-joined-merged : Merged touching joined 0 0
+pub joined-merged : Merged touching joined 0 0
 unfolding le16 le32 sum rowFrom rowLen spanFrom spanLen spanFirst
 joined-merged = record {
   size = refl;
@@ -39,26 +39,4 @@ joined-merged = record {
   merged = (refl, refl);
   after = λ q l h. absurd (omega arith);
   points = points;
-}
-
-pub worked : Worked-cases
-unfolding le16 le32 sum rowFrom rowLen spanFrom spanLen spanFirst
-worked = record {
-  none-refused = refl;
-  none-refused-sparse = refl;
-  dense-kept = refl;
-  dense-size = refl;
-  dense-0-0 = refl;
-  dense-0-1 = refl;
-  dense-1-0 = refl;
-  dense-1-1 = refl;
-  touching-kept = refl;
-  touching-0 = refl;
-  touching-1 = refl;
-  touching-2 = refl;
-  touching-3 = refl;
-  joined-kept = refl;
-  joined-merged = joined-merged;
-  to-the-end = refl;
-  past-the-end = refl;
 }

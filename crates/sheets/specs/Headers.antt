@@ -14,6 +14,7 @@ use Rattle.fault.specs.declared.layers.Layer.the-variants.{Sheet}
 use Rattle.fault.specs.declared.faults.Fault.{Fault}
 use Rattle.fault.specs.Faults.{atByte}
 use Rattle.fault.specs.Checks.{Checks, test, each, _then_}
+use Rattle.points.specs.Limits.{sizeLimit}
 use Rattle.sheets.specs.Bytes.{le16, le32}
 
 -- the header's fields: how many runs and seats, the kind of sheet, and how many spans it has
@@ -25,10 +26,6 @@ kindIn bs = le16 bs 2
 
 abbrev pub spansIn : List ℕ → ℕ
 spansIn bs = le32 bs 4
-
--- no sheet has more runs than this
-abbrev pub sizeLimit : ℕ
-sizeLimit = 256
 
 -- points lie from -top to top
 abbrev pub sheetTop : ℕ

@@ -6,4 +6,4 @@ pub mod CertificateFiles
 pub mod Sparse
 pub mod Seeks
 pub mod Merging
-pub mod Cases
+pub mod Examples

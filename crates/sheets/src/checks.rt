@@ -14,9 +14,7 @@ use crate::fields::sheet_fault;
 use crate::fields::u32_at;
 use fault::causes::Cause;
 use fault::faults::Fault;
-
-// No sheet has more runs than this.
-pub const SIZE_LIMIT: u16 = 256;
+use points::limits::SIZE_LIMIT;
 
 // The points of a sheet lie from -SHEET_TOP to SHEET_TOP.
 pub const SHEET_TOP: i32 = 1_000_000;
@@ -33,7 +31,7 @@ pub(crate) fn check_header(bytes: &[u8], kind: u16) -> Result<Header, Fault>
 {
     let header = read_header(bytes)?;
     sheet_fault(Cause::Kind, 2).unless(header.kind == kind)?;
-    sheet_fault(Cause::Size, 0).unless(1 <= header.size && header.size <= SIZE_LIMIT)?;
+    sheet_fault(Cause::Size, 0).unless(1 <= header.size && usize::from(header.size) <= SIZE_LIMIT)?;
     Ok(header)
 }
 

@@ -7,6 +7,7 @@ ghost use lib.ListN.{length};
 ghost use Rattle.std.specs.Of.Vec.{vec-items};
 ghost use Rattle.std.specs.Results.{Cases};
 ghost use Rattle.fault.specs.Checks.{Passes, Refuses, kept};
+ghost use Rattle.points.specs.Limits.{sizeLimit};
 ghost use Rattle.sheets.specs.Headers.{sizeIn, sheetTop};
 ghost use Rattle.sheets.specs.Dense.{rowAt, cell, denseFrame, denseCells, denseChecks, denseTable};
 use crate::checks::ABSENT;
@@ -35,7 +36,7 @@ pub struct DenseSheet {
 
 // The first byte of the points of a run.
 pub(crate) fn row_at(size: usize, run: usize) -> usize
-    requires { ⌜ (size ≤ 256) × (run < 256) ⌝ }
+    requires { ⌜ (size ≤ sizeLimit) × (run < sizeLimit) ⌝ }
     ensures { λ r. ⌜ r ≡ rowAt size run ⌝ }
 {
     8 + 4 * (size * run)
@@ -57,7 +58,7 @@ pub(crate) fn check_frame(bytes: &[u8]) -> Result<usize, Fault>
 
 // The points of every run, in order.
 pub(crate) fn check_cells(bytes: &[u8], size: usize) -> Result<(), Fault>
-    requires size { ⌜ (size ≡ sizeIn (now bytes)) × (size ≤ 256) ⌝ }
+    requires size { ⌜ (size ≡ sizeIn (now bytes)) × (size ≤ sizeLimit) ⌝ }
     requires room { ⌜ 8 + 4 * (size * size) ≤ length (now bytes) ⌝ }
     ensures { λ r. ⌜ Cases r (λ _. Passes (denseCells (now (bytes .entry)))) (λ f. Refuses (denseCells (now (bytes .entry))) f) ⌝ }
 {

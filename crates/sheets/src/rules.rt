@@ -4,8 +4,9 @@ ghost use mathlib.Core.Path.{_≡_};
 ghost use lib.ListN.{length};
 ghost use Rattle.std.specs.Results.{Cases};
 ghost use Rattle.fault.specs.Checks.{Passes, Refuses};
+ghost use Rattle.points.specs.Limits.{sizeLimit};
 ghost use Rattle.sheets.specs.Headers.{sizeIn, spansIn};
-ghost use Rattle.sheets.specs.Sparse.{rowFrom, rowEnd, spanAt, spanFrom, spanLen, coveredBefore, sparseFrame, endsWell, rowChecks, sparseRows, spanChecks, rowSpans, sparseSpans, pointChecks, sparseChecks};
+ghost use Rattle.sheets.specs.Sparse.{spanLimit, rowFrom, rowEnd, spanAt, spanFrom, spanLen, coveredBefore, sparseFrame, endsWell, rowChecks, sparseRows, spanChecks, rowSpans, sparseSpans, pointChecks, sparseChecks};
 use crate::checks::check_header;
 use crate::checks::check_words;
 use crate::fields::Header;
@@ -57,7 +58,7 @@ pub(crate) fn check_row(
     run: usize,
     before: usize,
 ) -> Result<usize, Fault>
-    requires frame { ⌜ (size ≡ sizeIn (now bytes)) × (spans ≡ spansIn (now bytes)) × (size ≤ 256) × (8 + 8 * size ≤ length (now bytes)) ⌝ }
+    requires frame { ⌜ (size ≡ sizeIn (now bytes)) × (spans ≡ spansIn (now bytes)) × (size ≤ sizeLimit) × (8 + 8 * size ≤ length (now bytes)) ⌝ }
     requires run { ⌜ run < size ⌝ }
     ensures { λ r.
         ⌜ Cases r
@@ -72,7 +73,7 @@ pub(crate) fn check_row(
 
 // The rows, in order.
 pub(crate) fn check_rows(bytes: &[u8], size: usize, spans: usize) -> Result<(), Fault>
-    requires { ⌜ (size ≡ sizeIn (now bytes)) × (spans ≡ spansIn (now bytes)) × (size ≤ 256) × (8 + 8 * size ≤ length (now bytes)) ⌝ }
+    requires { ⌜ (size ≡ sizeIn (now bytes)) × (spans ≡ spansIn (now bytes)) × (size ≤ sizeLimit) × (8 + 8 * size ≤ length (now bytes)) ⌝ }
     ensures { λ r. ⌜ Cases r (λ _. Passes (sparseRows (now (bytes .entry)))) (λ f. Refuses (sparseRows (now (bytes .entry))) f) ⌝ }
 {
     let mut end = 0;
@@ -90,7 +91,7 @@ pub(crate) fn check_span(
     before: usize,
     covered: usize,
 ) -> Result<Span, Fault>
-    requires size { ⌜ (size ≡ sizeIn (now bytes)) × (size ≤ 256) × (span < 65536) ⌝ }
+    requires size { ⌜ (size ≡ sizeIn (now bytes)) × (size ≤ sizeLimit) × (span < spanLimit) ⌝ }
     requires room { ⌜ spanAt size span + 8 ≤ length (now bytes) ⌝ }
     ensures { λ r.
         ⌜ Cases r
@@ -112,12 +113,12 @@ pub(crate) fn check_row_spans(
     run: usize,
     covered: usize,
 ) -> Result<usize, Fault>
-    requires size { ⌜ (size ≡ sizeIn (now bytes)) × (size ≤ 256) × (run < size) ⌝ }
-    requires row { ⌜ (rowEnd (now bytes) run ≤ 65536) × (spanAt size (rowEnd (now bytes) run) ≤ length (now bytes)) ⌝ }
-    requires covered { ⌜ (covered ≡ coveredBefore (now bytes) (rowFrom (now bytes) run)) × (covered ≤ 256 * rowFrom (now bytes) run) ⌝ }
+    requires size { ⌜ (size ≡ sizeIn (now bytes)) × (size ≤ sizeLimit) × (run < size) ⌝ }
+    requires row { ⌜ (rowEnd (now bytes) run ≤ spanLimit) × (spanAt size (rowEnd (now bytes) run) ≤ length (now bytes)) ⌝ }
+    requires covered { ⌜ (covered ≡ coveredBefore (now bytes) (rowFrom (now bytes) run)) × (covered ≤ sizeLimit * rowFrom (now bytes) run) ⌝ }
     ensures { λ r.
         ⌜ Cases r
-        (λ c. Passes (rowSpans (now (bytes .entry)) run) × (c ≡ coveredBefore (now (bytes .entry)) (rowEnd (now (bytes .entry)) run)) × (c ≤ 256 * rowEnd (now (bytes .entry)) run))
+        (λ c. Passes (rowSpans (now (bytes .entry)) run) × (c ≡ coveredBefore (now (bytes .entry)) (rowEnd (now (bytes .entry)) run)) × (c ≤ sizeLimit * rowEnd (now (bytes .entry)) run))
         (λ f. Refuses (rowSpans (now (bytes .entry)) run) f) ⌝ }
 {
     let row = row_of(bytes, run);

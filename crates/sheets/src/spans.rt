@@ -4,8 +4,9 @@ ghost use mathlib.Core.Path.{_≡_};
 ghost use lib.Dec.{ltb};
 ghost use lib.ListN.{length};
 ghost use Rattle.fault.specs.Checks.{Passes};
+ghost use Rattle.points.specs.Limits.{sizeLimit};
 ghost use Rattle.sheets.specs.Headers.{sizeIn};
-ghost use Rattle.sheets.specs.Sparse.{rowFrom, rowLen, spanAt, spanFrom, spanLen, spanFirst, spanEnd, sparseChecks};
+ghost use Rattle.sheets.specs.Sparse.{spanLimit, rowFrom, rowLen, spanAt, spanFrom, spanLen, spanFirst, spanEnd, sparseChecks};
 ghost use Rattle.sheets.specs.Seeks.{Rising, Passed, First};
 use crate::fields::u16_at;
 use crate::fields::u32_at;
@@ -55,7 +56,7 @@ impl Span {
 
 // The first byte of a span.
 pub(crate) fn span_at(size: usize, span: usize) -> usize
-    requires { ⌜ (size ≤ 256) × (span ≤ 65536) ⌝ }
+    requires { ⌜ (size ≤ sizeLimit) × (span ≤ spanLimit) ⌝ }
     ensures { λ r. ⌜ r ≡ spanAt size span ⌝ }
 {
     8 + 8 * size + 8 * span
@@ -63,7 +64,7 @@ pub(crate) fn span_at(size: usize, span: usize) -> usize
 
 // The span of a number.
 pub(crate) fn span_of(bytes: &[u8], size: usize, span: usize) -> Span
-    requires size { ⌜ (size ≡ sizeIn (now bytes)) × (size ≤ 256) × (span < 65536) ⌝ }
+    requires size { ⌜ (size ≡ sizeIn (now bytes)) × (size ≤ sizeLimit) × (span < spanLimit) ⌝ }
     requires room { ⌜ spanAt size span + 8 ≤ length (now bytes) ⌝ }
     ensures { λ r. ⌜ (r .from ≡ spanFrom (now (bytes .entry)) span) × (r .len ≡ spanLen (now (bytes .entry)) span) × (r .first ≡ spanFirst (now (bytes .entry)) span) ⌝ }
 {
@@ -76,7 +77,7 @@ pub(crate) fn span_of(bytes: &[u8], size: usize, span: usize) -> Span
 
 // Whether a span ends over a seat.
 pub(crate) fn is_over(bytes: &[u8], size: usize, span: usize, seat: usize) -> bool
-    requires size { ⌜ (size ≡ sizeIn (now bytes)) × (size ≤ 256) × (span < 65536) ⌝ }
+    requires size { ⌜ (size ≡ sizeIn (now bytes)) × (size ≤ sizeLimit) × (span < spanLimit) ⌝ }
     requires room { ⌜ spanAt size span + 8 ≤ length (now bytes) ⌝ }
     ensures { λ r. ⌜ r ≡ ltb seat (spanEnd (now (bytes .entry)) span) ⌝ }
 {
@@ -85,8 +86,8 @@ pub(crate) fn is_over(bytes: &[u8], size: usize, span: usize, seat: usize) -> bo
 
 // The first span of a row that ends over a seat, or the row's end where none does.
 pub(crate) fn seek(bytes: &[u8], size: usize, row: Row, seat: usize) -> usize
-    requires size { ⌜ (size ≡ sizeIn (now bytes)) × (size ≤ 256) ⌝ }
-    requires row { ⌜ (row .from + row .len ≤ 65536) × (spanAt size (row .from + row .len) ≤ length (now bytes)) ⌝ }
+    requires size { ⌜ (size ≡ sizeIn (now bytes)) × (size ≤ sizeLimit) ⌝ }
+    requires row { ⌜ (row .from + row .len ≤ spanLimit) × (spanAt size (row .from + row .len) ≤ length (now bytes)) ⌝ }
     requires rising { ⌜ Rising (now bytes) (row .from) (row .from + row .len) ⌝ }
     ensures within { λ r. ⌜ (row .from ≤ r) × (r ≤ row .from + row .len) ⌝ }
     ensures before { λ r. ⌜ Passed (now (bytes .entry)) (row .from) r seat ⌝ }

@@ -8,8 +8,9 @@ ghost use Rattle.std.specs.Of.Vec.{vec-items};
 ghost use Rattle.std.specs.Results.{Cases};
 ghost use Rattle.fault.specs.Checks.{Passes, Refuses, kept};
 ghost use Rattle.points.specs.Tables.{Next};
+ghost use Rattle.points.specs.Limits.{sizeLimit};
 ghost use Rattle.sheets.specs.Headers.{sizeIn, spansIn, sheetTop};
-ghost use Rattle.sheets.specs.Sparse.{pointsAt, sparseChecks, pointWord, sparseTable};
+ghost use Rattle.sheets.specs.Sparse.{spanLimit, pointsAt, sparseChecks, pointWord, sparseTable};
 ghost use Rattle.sheets.specs.Seeks.{pointBy};
 use crate::fields::no_bytes;
 use crate::fields::u32_at;
@@ -33,7 +34,7 @@ pub struct SparseSheet {
 
 // The word of a point, by its number.
 pub(crate) fn point_word(bytes: &[u8], size: usize, point: usize) -> u32
-    requires size { ⌜ (size ≡ sizeIn (now bytes)) × (size ≤ 256) × (spansIn (now bytes) ≤ 65536) ⌝ }
+    requires size { ⌜ (size ≡ sizeIn (now bytes)) × (size ≤ sizeLimit) × (spansIn (now bytes) ≤ spanLimit) ⌝ }
     requires room { ⌜ pointsAt (now bytes) + 4 * point + 4 ≤ length (now bytes) ⌝ }
     ensures { λ r. ⌜ r ≡ pointWord (now (bytes .entry)) point ⌝ }
 {
@@ -43,7 +44,7 @@ pub(crate) fn point_word(bytes: &[u8], size: usize, point: usize) -> u32
 
 // The points that a span has for a seat below its end, or nothing where it begins after the seat.
 pub(crate) fn point_of(bytes: &[u8], size: usize, span: Span, seat: usize) -> Option<i32>
-    requires size { ⌜ (size ≡ sizeIn (now bytes)) × (size ≤ 256) × (spansIn (now bytes) ≤ 65536) ⌝ }
+    requires size { ⌜ (size ≡ sizeIn (now bytes)) × (size ≤ sizeLimit) × (spansIn (now bytes) ≤ spanLimit) ⌝ }
     requires room { ⌜ (span .from ≤ seat → pointsAt (now bytes) + 4 * (span .first + (seat - span .from)) + 4 ≤ length (now bytes)) ⌝ }
     ensures { λ r. ⌜ r ≡ pointBy (now (bytes .entry)) span seat ⌝ }
 {
