@@ -17,11 +17,11 @@ loop-t-again g c =
     let t : Telling = tellingAt ts i in
     let face : g .B .Denot → Face = g .B·PriceBoard .face in
     let more : calls (take i ts) ++ (call t ∷ []) ≡ calls (take (i + 1) ts) = sym (map-more call ts i (record { seat = 0; price = 0 }) (c .loop-t-test .taken)) in (
-      subst (λ (cs : List Call). Run (g .B·PriceBoard .step) cs (c .args .board .now) (c .tell .last .self)) more
-          (run-push (g .B·PriceBoard .step) (calls (take i ts)) (call t) (c .args .board .now) (c .loop-t .board) (c .tell .last .self) (c .loop-t .inv .0) (c .tell .ensures .own)),
-      λ s. subst (λ (cs : List Call). Run BoardDoes cs (face (c .args .board .now)) (face (c .tell .last .self))) more
-          (run-push BoardDoes (calls (take i ts)) (call t) (face (c .args .board .now)) (face (c .loop-t .board)) (face (c .tell .last .self)) (c .loop-t .inv .1 s) (c .tell .ensures .does (c .loop-t .inv .2 s))),
-      λ s. c .tell .ensures .safe (c .loop-t .inv .2 s),
+      subst (λ (cs : List Call). Run (g .B·PriceBoard .step) cs (c .args .board .now) (c .tell-one .last .board)) more
+          (run-push (g .B·PriceBoard .step) (calls (take i ts)) (call t) (c .args .board .now) (c .loop-t .board) (c .tell-one .last .board) (c .loop-t .inv .0) (c .tell-one .ensures .own)),
+      λ s. subst (λ (cs : List Call). Run BoardDoes cs (face (c .args .board .now)) (face (c .tell-one .last .board))) more
+          (run-push BoardDoes (calls (take i ts)) (call t) (face (c .args .board .now)) (face (c .loop-t .board)) (face (c .tell-one .last .board)) (c .loop-t .inv .1 s) (c .tell-one .ensures .does (c .loop-t .inv .2 s))),
+      λ s. c .tell-one .ensures .safe (c .loop-t .inv .2 s),
     )
 
 pub returns : need.returns
