@@ -9,7 +9,7 @@ use Rattle.std.specs.declared.option.Option.the-variants.{Some, None}
 use Rattle.points.specs.Tables.{Table, Allowed, Lawful}
 use Rattle.points.specs.Plans.{FullPlan, AllContent}
 use Rattle.points.proofs.Scales.{worth}
-use Rattle.auction.specs.Markets.{Market, Holds, Vacant, AllSeated, seatOr0, planOf}
+use Rattle.auction.specs.Markets.{Bid, Market, Holds, Vacant, AllSeated, seatOr0, planOf}
 use Rattle.auction.proofs.Sound.{Orderly}
 
 pub none-some : {A : Type 0} {P : Type 0} (o : Option A) (x : A) → o ≡ None → o ≡ Some x → P
@@ -18,6 +18,18 @@ none-some o x p q = let z : _≡_ {A = ℕ} 0 1 = cc in absurd (omega arith)
 pub is-some : (o : Option ℕ) (k : ℕ) → Dec (o ≡ Some k)
 is-some None k = no (λ e. none-some None k refl e)
 is-some (Some j) k = elim (ℕ-discrete j k) [ yes e ↦ yes (ap Some e) | no d ↦ no (λ e. d (cc)) ]
+
+abbrev seat-of : Option Bid → ℕ
+seat-of (Some x) = x .seat
+seat-of None = 0
+
+abbrev price-of : Option Bid → ℕ
+price-of (Some x) = x .price
+price-of None = 0
+
+-- two bids that are the same are for the same seat at the same price
+pub same-bid : (j b k c : ℕ) → _≡_ {A = Option Bid} (Some (record { seat = j; price = b })) (Some (record { seat = k; price = c })) → (j ≡ k) × (b ≡ c)
+same-bid j b k c e = (ap seat-of e, ap price-of e)
 
 -- an allowed pair lies below the size
 pub run-low : (t : Table) → Lawful t → (i k : ℕ) → Allowed t i k → i < t .size

@@ -1,3 +1,5 @@
 pub mod Sound
 pub mod Holders
 pub mod Floors
+pub mod Keeps
+pub mod Lands
