@@ -3,3 +3,4 @@ pub mod Holders
 pub mod Floors
 pub mod Keeps
 pub mod Lands
+pub mod Seeks
