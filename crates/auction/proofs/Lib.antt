@@ -4,3 +4,5 @@ pub mod Floors
 pub mod Keeps
 pub mod Lands
 pub mod Seeks
+pub mod Singles
+pub mod Plays
