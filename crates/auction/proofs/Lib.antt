@@ -6,3 +6,4 @@ pub mod Lands
 pub mod Seeks
 pub mod Singles
 pub mod Plays
+pub mod Stands
