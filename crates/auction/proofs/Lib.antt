@@ -7,3 +7,4 @@ pub mod Seeks
 pub mod Singles
 pub mod Plays
 pub mod Stands
+pub mod Figures

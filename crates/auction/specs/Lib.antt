@@ -5,3 +5,4 @@ pub mod Changes
 pub mod Events
 pub mod Runs
 pub mod Laws
+pub mod Figures
