@@ -24,7 +24,8 @@ use Rattle.auction.specs.Figures.{Case, leads, completes, delivers, tableOf, o
 use Rattle.auction.proofs.Sound.{Sound}
 use Rattle.auction.proofs.Holders.{none-some}
 use Rattle.auction.proofs.Lands as Lands
-use Rattle.auction.proofs.Plays.{Playable, playable, follows, next, plays-step, plays, ends, seated, seated-all}
+use Rattle.auction.proofs.Displaces.{playable}
+use Rattle.auction.proofs.Plays.{follows, next, plays-step, plays, ends, seated, seated-all}
 use Rattle.auction.proofs.Stands.{step-sound}
 
 -- points from -top to top

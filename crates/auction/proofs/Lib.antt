@@ -5,6 +5,9 @@ pub mod Keeps
 pub mod Lands
 pub mod Seeks
 pub mod Singles
+pub mod Puts
+pub mod Displaces
+pub mod Heights
 pub mod Plays
 pub mod Stands
 pub mod Figures

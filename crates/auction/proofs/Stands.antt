@@ -2,6 +2,7 @@
 use Prim.Native.Nat.{ℕ, suc, zero, _+_, _-_, _*_, _<_, _≤_}
 use mathlib.Core.Path.{_≡_, refl, sym, ap, subst, _∙_}
 use mathlib.Core.List.{List, [], _∷_, _++_}
+use mathlib.Core.Logic.{_⊎_, inl, inr}
 use native.Mathlib.Omega.{arith}
 use native.Mathlib.Nat.{mul-le-mul, mul-le-mul-left, mul-le-mul-right}
 use native.Mathlib.Decide.{decLe}
@@ -18,10 +19,10 @@ use Rattle.points.proofs.Sums.{sum-at-most}
 use Rattle.points.proofs.Scales.{worth}
 use Rattle.points.proofs.Optimal as Optimal
 use Rattle.auction.specs.Limits.{phaseLimit, incrementLimit, sizeLimit, topLimit}
-use Rattle.auction.specs.Markets.{Bid, Market, planOf}
-use Rattle.auction.specs.Bids.{ceiling, depth, floor, cap}
+use Rattle.auction.specs.Markets.{Bid, Market, Out, planOf}
+use Rattle.auction.specs.Bids.{ceiling, depth, floor, cap, Best-bid, Hopeless}
 use Rattle.auction.specs.Changes.{SamePhase}
-use Rattle.auction.specs.Events.{Composed, Outbid, Settled, Advanced, Event, composed, marked, landed, outbid, recalled, carried, settled, advanced, Step}
+use Rattle.auction.specs.Events.{May-bid, Composed, Marked, Landed, Outbid, Settled, Advanced, Event, composed, marked, landed, outbid, recalled, carried, settled, advanced, Step}
 use Rattle.auction.specs.Runs.{Run, FallsToOne, Reached}
 use Rattle.auction.specs.Laws as law
 use Rattle.auction.specs.Laws.{Within}
@@ -32,7 +33,8 @@ use Rattle.auction.proofs.Keeps as Keeps
 use Rattle.auction.proofs.Lands as Lands
 use Rattle.auction.proofs.Seeks.{second-low}
 use Rattle.auction.proofs.Singles.{bid-is-single, composing-is-single, delivery-is-single}
-use Rattle.auction.proofs.Plays.{playable, holder, landed-with, landing}
+use Rattle.auction.proofs.Displaces.{holder, playable}
+use Rattle.auction.proofs.Plays.{next, composing, marking, landed-with, landing, outbidding}
 
 pub step-sound : (t : Table) (c : Event) (m n : Market) → Lawful t → Step t c m n → Sound t m → Sound t n
 step-sound t (composed i j b) m n l s d = Keeps.composed t m n l d i j b s
@@ -110,6 +112,26 @@ settled-enough t m w x i j b s c =
       y .price,
       second-low t (floor t w) (w .shown i) i j (y .points) (y .second) (y .best) (y .value) (y .above),
     )
+
+composing-answered : law.Composing-answered
+composing-answered t m i l h = go (bid-is-single .some t m (m .shown i) i l)
+  where
+    go : ((j : ℕ) × (b : ℕ) × Best-bid t m (m .shown i) i j b) ⊎ Hopeless t m (m .shown i) i → ((j : ℕ) × (b : ℕ) × (n : Market) × Composed t m n i j b) ⊎ ((n : Market) × Marked t m n i)
+    go (inl (j, b, y)) = inl (j, b, next t (composed i j b) m, composing t m i j b h y)
+    go (inr y) = inr (next t (marked i) m, marking t m i h y)
+
+delivery-answered : law.Delivery-answered
+delivery-answered t m i j b r unmarked out = go (decLe (m .price j + m .increment) b)
+  where
+    d : Sound t m
+    d = sound t m r
+    low : i < t .size
+    low = let y = d .bids i j b out in r .lawful .runs i j (y .points) (y .pays)
+    go : Dec (m .price j + m .increment ≤ b) → ((o : Option ℕ) × (n : Market) × Landed t m n i j b o) ⊎ ((n : Market) × Outbid t m n i j (m .price j))
+    go (yes h) =
+        let o : Option ℕ = holder m i j (t .size) in
+        inl (o, landed-with m i j b o, landing t m (playable t m (r .lawful) d) i j b o low unmarked out h refl)
+    go (no h) = inr (next t (outbid i j (m .price j)) m, outbidding t m i j b low unmarked out (omega arith))
 
 settled-bid-lands : law.Settled-bid-lands
 settled-bid-lands = record {
@@ -239,5 +261,7 @@ auction-stands = record {
   fit = prices-fit;
   bid = bid-is-single;
   composing = composing-is-single;
-  delivery = delivery-is-single
+  composing-answered = composing-answered;
+  delivery = delivery-is-single;
+  delivery-answered = delivery-answered
 }

@@ -13,6 +13,7 @@ use Rattle.auction.specs.Markets.{Bid, Market, AllSeated, planOf}
 use Rattle.auction.specs.Events.{Event, composed, marked, landed, outbid, recalled, carried, settled, advanced, Step}
 use Rattle.auction.specs.Runs.{Run, Opened}
 
+-- a worked case
 pub data Case : Type 0 where
   -- over these points by run and seat, events that follow a start with this first increment and these later ones
   leads : List (List (Option ℤ)) → ℕ → List ℕ → List Event → Case
@@ -85,6 +86,7 @@ Case-holds (leads rows first later cs) = Leads (tableOf rows) (opening first lat
 Case-holds (completes rows first later cs z) = Completes (tableOf rows) (opening first later) cs z
 Case-holds (delivers e price offer c) = (n : Market) × Step (tableOf ((Some (pos 0) ∷ []) ∷ [])) c (waiting e price offer) n
 
+-- every case of a list holds
 abbrev pub All-hold : List Case → Type 0
 All-hold [] = Unit {0}
 All-hold (c ∷ cs) = Case-holds c × All-hold cs
@@ -97,6 +99,7 @@ rowsA = (Some (pos 5) ∷ Some (pos 3) ∷ []) ∷ (Some (pos 4) ∷ Some (pos 1
 abbrev pub rowsOneSeat : List (List (Option ℤ))
 rowsOneSeat = (Some (pos 0) ∷ None ∷ []) ∷ (Some (pos 0) ∷ None ∷ []) ∷ []
 
+-- the cases
 abbrev pub figures : List Case
 figures =
     -- run 1 displaces run 0, which takes the other seat

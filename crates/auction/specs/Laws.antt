@@ -14,7 +14,7 @@ use Rattle.auction.specs.Limits.{phaseLimit, incrementLimit, sizeLimit, topLim
 use Rattle.auction.specs.Markets.{Bid, Market, Holds, Free, Vacant, Out, AllSeated, Shown-below, planOf, bidsOut}
 use Rattle.auction.specs.Bids.{ceiling, depth, floor, cap, Best-bid, Hopeless}
 use Rattle.auction.specs.Changes.{Alike}
-use Rattle.auction.specs.Events.{Composed, Marked, Landed, Outbid, Settled, Event, Step}
+use Rattle.auction.specs.Events.{May-bid, Composed, Marked, Landed, Outbid, Settled, Event, Step}
 use Rattle.auction.specs.Runs.{FallsToOne, Opened, Reached}
 
 -- the market that a start leaves is reached
@@ -121,12 +121,21 @@ pub record Composing-is-single : Type 0 where
   pub apart : (t : Table) (m n o : Market) (i j b : ℕ) → Composed t m n i j b → Marked t m o i → ⊥
   pub marked : (t : Table) (m n o : Market) (i : ℕ) → Marked t m n i → Marked t m o i → Alike n o
 
+-- a run that may bid gets an answer
+abbrev pub Composing-answered : Type 0
+Composing-answered = (t : Table) (m : Market) (i : ℕ) → Lawful t → May-bid t m i → ((j : ℕ) × (b : ℕ) × (n : Market) × Composed t m n i j b) ⊎ ((n : Market) × Marked t m n i)
+
 -- delivering has one answer, and leaves one market but for what the board shows
 pub record Delivery-is-single : Type 0 where
   pub landed : (t : Table) (m n o : Market) (i j k b c : ℕ) (d e : Option ℕ) → Landed t m n i j b d → Landed t m o i k c e → (j ≡ k) × (b ≡ c) × (d ≡ e) × Alike n o
   pub apart : (t : Table) (m n o : Market) (i j k b p : ℕ) (d : Option ℕ) → Landed t m n i j b d → Outbid t m o i k p → ⊥
   pub outbid : (t : Table) (m n o : Market) (i j k p q : ℕ) → Outbid t m n i j p → Outbid t m o i k q → (j ≡ k) × (p ≡ q) × Alike n o
 
+-- a bid that is out in a market with no mark gets an answer when it is delivered
+abbrev pub Delivery-answered : Type 0
+Delivery-answered = (t : Table) (m : Market) (i j b : ℕ) → Reached t m → m .mark ≡ None → Out m i j b → ((d : Option ℕ) × (n : Market) × Landed t m n i j b d) ⊎ ((n : Market) × Outbid t m n i j (m .price j))
+
+-- all of them
 pub record Auction-stands : Type 0 where
   pub opening : Opening-reached
   pub step : Step-reached
@@ -151,4 +160,6 @@ pub record Auction-stands : Type 0 where
   pub fit : Prices-fit
   pub bid : Bid-is-single
   pub composing : Composing-is-single
+  pub composing-answered : Composing-answered
   pub delivery : Delivery-is-single
+  pub delivery-answered : Delivery-answered

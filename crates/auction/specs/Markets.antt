@@ -7,10 +7,12 @@ use Rattle.std.specs.declared.option.Option.the-variants.{Some, None}
 use Rattle.points.specs.Tables.{Table}
 use Rattle.points.specs.Sums.{sum}
 
+-- an offer of a price for a seat
 pub record Bid : Type 0 where
   pub seat : ℕ
   pub price : ℕ
 
+-- what the rules speak of
 pub record Market : Type 0 where
   -- the price of each seat
   pub price : ℕ → ℕ
@@ -62,6 +64,7 @@ AllSeated t m = (i : ℕ) → i < t .size → (k : ℕ) × Holds m i k
 abbrev pub Shown-below : Market → Type 0
 Shown-below m = (i k : ℕ) → m .shown i k ≤ m .price k
 
+-- a seat that is held, and 0 for none
 abbrev pub seatOr0 : Option ℕ → ℕ
 seatOr0 (Some k) = k
 seatOr0 None = 0
@@ -70,6 +73,7 @@ seatOr0 None = 0
 abbrev pub planOf : Market → ℕ → ℕ
 planOf m i = seatOr0 (m .seat i)
 
+-- 1 for a bid that is out, and 0 for none
 abbrev pub outs : Option Bid → ℕ
 outs (Some x) = 1
 outs None = 0
