@@ -30,7 +30,7 @@ pub playable : (t : Table) (m : Market) → Lawful t → Sound t m → Playable 
 playable t m l d = record {
   low = λ i k h. run-low t l i k (d .orderly .allowed i k h);
   single = d .orderly .single;
-  shown = d .shown
+  shown = d .shown;
 }
 
 module _ (m : Market) (i j : ℕ) where
@@ -45,9 +45,9 @@ module _ (m : Market) (i j : ℕ) where
   tells-more : (r : ℕ) (o : Option ℕ) (c : Bool) → (not (eqb r i) && has (m .seat r) j) ≡ c → Tells r o → Tells (suc r) (cond c (Some r) o)
   tells-more r o true e h = let (a, b) = and-parts _ _ e in ((λ f. both-ways _ (ap not (eq-eqb r i f)) a), has-true (m .seat r) j b)
   tells-more r None false e h = λ u l n g. elim (cases-eq u r) [
-      inl f ↦ both-ways _ e (apart r (λ c. n (f ∙ c)) (subst (λ (z : ℕ). Holds m z j) f g))
+    | inl f ↦ both-ways _ e (apart r (λ c. n (f ∙ c)) (subst (λ (z : ℕ). Holds m z j) f g))
     | inr c ↦ h u (omega arith) n g
-    ]
+  ]
   tells-more r (Some u) false e h = h
 
   tells : (n : ℕ) → Tells n (holder m i j n)
@@ -58,7 +58,7 @@ module _ (m : Market) (i j : ℕ) where
   displaced-by t None p h = record { holds = λ r e. none-some None r refl e; named = λ r n g. absurd (h r (p .low r j g) n g) }
   displaced-by t (Some u) p (n, h) = record {
     holds = λ r e. let f : u ≡ r = cc in subst (λ (z : ℕ). (z ≢ i) × Holds m z j) f (n, h);
-    named = λ r c g. ap Some (p .single u r j h g)
+    named = λ r c g. ap Some (p .single u r j h g);
   }
 
   pub displaced : (t : Table) → Playable t m → Displaced m i j (holder m i j (t .size))

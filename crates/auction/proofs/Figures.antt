@@ -77,7 +77,7 @@ lawful rows f = record {
   runs = λ i k p e. in-rows (length rows) rows i k p f e .0;
   seats = λ i k p e. in-rows (length rows) rows i k p f e .1;
   low = λ i k p e. in-rows (length rows) rows i k p f e .2 .0;
-  high = λ i k p e. in-rows (length rows) rows i k p f e .2 .1
+  high = λ i k p e. in-rows (length rows) rows i k p f e .2 .1;
 }
 
 plays-run : (t : Table) (cs : List Event) (m : Market) → Lawful t → Sound t m → plays t cs m ≡ true → Run t cs m (ends t cs m)
@@ -103,7 +103,7 @@ opens first later h = record {
   accepted = refl;
   outbid = refl;
   recalled = refl;
-  phase-accepted = refl
+  phase-accepted = refl;
 }
 
 -- increments that make a ladder
@@ -164,7 +164,7 @@ module _ (rows : List (List (Option ℤ))) (first : ℕ) (later : List ℕ) (cs 
     lawful = fits;
     opened = starts;
     final = final rows first later cs;
-    run = plays-run (tableOf rows) cs (opening first later) fits (Lands.opened (tableOf rows) (opening first later) starts) (parts .2)
+    run = plays-run (tableOf rows) cs (opening first later) fits (Lands.opened (tableOf rows) (opening first later) starts) (parts .2);
   }
 
   done-completes : (z : ℤ) → done (tableOf rows) (final rows first later cs) z ≡ true → Completes (tableOf rows) (opening first later) cs z
@@ -178,7 +178,7 @@ module _ (rows : List (List (Option ℤ))) (first : ℕ) (later : List ℕ) (cs 
         leads = led-leads;
         seated = seated-all m (length rows) all;
         last = none-left-is (m .later) last;
-        total = omega (arith, ints, le-true worth z a, le-true z worth b)
+        total = omega (arith, ints, le-true worth z a, le-true z worth b);
       }
 
 holds : (c : Case) → passes c ≡ true → Case-holds c
@@ -186,12 +186,14 @@ holds (leads rows first later cs) h = led-leads rows first later cs h
 holds (completes rows first later cs z) h = let (a, b) = and-parts _ _ h in done-completes rows first later cs a z b
 holds (delivers e price offer c) h =
     let t : Table = tableOf ((Some (pos 0) ∷ []) ∷ []) in
-    let m : Market = waiting e price offer in
-    (next t c m, plays-step t c m (lawful ((Some (pos 0) ∷ []) ∷ []) refl) (record {
-      low = λ i k g. none-some None k refl g;
-      single = λ i j k g f. none-some None k refl g;
-      shown = λ i k. omega arith
-    }) h)
+    let m : Market = waiting e price offer in (
+      next t c m,
+      plays-step t c m (lawful ((Some (pos 0) ∷ []) ∷ []) refl) (record {
+        low = λ i k g. none-some None k refl g;
+        single = λ i j k g f. none-some None k refl g;
+        shown = λ i k. omega arith;
+      }) h,
+    )
 
 abbrev all-pass : List Case → Bool
 all-pass [] = true

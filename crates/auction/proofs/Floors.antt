@@ -124,8 +124,8 @@ module _ (t : Table) (m : Market) (π : ℕ → ℕ) (i : ℕ) (l : Lawful t) (o
   end zero d e k = absurd (omega (arith, x-short d k))
   end (suc n) d e k =
       elim (one-of-holds m (π (x d)) (held-or-vacant t m l o (π (x d)))) [
-        inl h ↦ end n (suc d) (omega arith) (λ u lt. elim (ℕ-discrete u d) [ yes p ↦ subst (λ (v : ℕ). Holds m (x (suc v)) (π (x v))) (sym p) h | no c ↦ k u (omega arith) ])
-      | inr v ↦ (d, k, v)
+        | inl h ↦ end n (suc d) (omega arith) (λ u lt. elim (ℕ-discrete u d) [ yes p ↦ subst (λ (v : ℕ). Holds m (x (suc v)) (π (x v))) (sym p) h | no c ↦ k u (omega arith) ])
+        | inr v ↦ (d, k, v)
       ]
 
   price-low : m .price (π i) ≤ m .high + (t .size - 1) * (2 * ceiling t + m .increment)

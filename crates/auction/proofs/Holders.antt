@@ -58,7 +58,7 @@ module _ (t : Table) (m : Market) (o : Orderly t m) (all : AllSeated t m) where
   pub planned : FullPlan t (planOf m)
   planned = record {
     allowed = λ i h. o .allowed i (planOf m i) (held i h);
-    apart = λ i j h k e. o .single i j (planOf m i) (held i h) (subst (λ (z : ℕ). Holds m j z) (sym e) (held j k))
+    apart = λ i j h k e. o .single i j (planOf m i) (held i h) (subst (λ (z : ℕ). Holds m j z) (sym e) (held j k));
   }
 
   pub all-content : AllContent t (m .price) (m .increment) (planOf m)

@@ -49,7 +49,7 @@ module _ (t : Table) (m n : Market) (p : SamePhase m n) where
       allowed = λ i k h. o .allowed i k (sym (s .seat i) ∙ h);
       single = λ i j k h g. o .single i j k (sym (s .seat i) ∙ h) (sym (s .seat j) ∙ g);
       content = λ i j h k a b x y. omega (arith, ints, o .content i j (sym (s .seat i) ∙ h) k a b x y, s .price j, s .price k, p .increment);
-      vacant = λ k low v. omega (arith, o .vacant k low (λ i h. v i (s .seat i ∙ h)), s .price k, p .high)
+      vacant = λ k low v. omega (arith, o .vacant k low (λ i h. v i (s .seat i ∙ h)), s .price k, p .high);
     }
 
     standing-same : (i j b : ℕ) → Standing t m i j b → Standing t n i j b
@@ -58,7 +58,7 @@ module _ (t : Table) (m n : Market) (p : SamePhase m n) where
       points = d .points;
       pays = d .pays;
       capped = omega (arith, d .capped, cap-same);
-      content = λ k r a c. omega (arith, ints, d .content k r a c, s .price k, p .increment)
+      content = λ k r a c. omega (arith, ints, d .content k r a c, s .price k, p .increment);
     }
 
     -- what is left to show of an event that changes no seat and no price
@@ -72,7 +72,7 @@ module _ (t : Table) (m n : Market) (p : SamePhase m n) where
       allowance = allowance;
       shown = shown;
       marked = marked;
-      ladder = ladder-same (d .ladder)
+      ladder = ladder-same (d .ladder);
     }
 
     bids-kept : Sound t m → SameBids m n → AllStanding t n
@@ -142,17 +142,21 @@ module _ (t : Table) (m n : Market) (l : Lawful t) (d : Sound t m) where
     where
       c : Counted m n 1 0 0 0
       c = x .counts
+
       pays : Pays t i j (x .bid .points)
       pays = x .bid .best .pays
+
       low : b ≤ cap t m
       low = omega (arith, ints, x .bid .price, x .bid .value .over-floor, under-ceiling t l i j (x .bid .points) pays, depth-cap t m (omega (arith, x .may .low)))
+
       mine : Standing t n i j b
       mine = standing-same t m n (x .phase) (x .seats) i j b (record {
         free = x .may .free;
         points = x .bid .points;
         pays = pays;
         capped = low;
-        content = λ k r a f. omega (arith, ints, x .bid .value .over-others k r a f, x .bid .price, d .shown i k)
+        content = λ k r a f. omega (arith, ints, x .bid .value .over-others k r a f, x .bid .price, d .shown i k);
       })
+
       new : (k a : ℕ) → _≡_ {A = Option Bid} (Some (record { seat = j; price = b })) (Some (record { seat = k; price = a })) → Standing t n i k a
       new k a e = let (p, q) = same-bid j b k a e in rw (← p, ← q) mine

@@ -81,7 +81,7 @@ module _ (t : Table) (m n : Market) (l : Lawful t) (s : Sound t m) (i j b : ℕ)
     allowed = λ r k h. elim (before r k h) [ inl c ↦ pays-allowed t r k (bid .points) (ap₂ (t .points) (c .0) (c .1) ∙ bid .pays) | inr c ↦ o .allowed r k (c .0) ];
     single = single;
     content = content;
-    vacant = λ k low v. let c : k ≢ j = λ e. v i (x .seated ∙ ap Some (sym e)) in omega (arith, o .vacant k low (λ r h. v r (after r k c h)), x .prices k c, x .phase .high)
+    vacant = λ k low v. let c : k ≢ j = λ e. v i (x .seated ∙ ap Some (sym e)) in omega (arith, o .vacant k low (λ r h. v r (after r k c h)), x .prices k c, x .phase .high);
   }
 
   -- the other bids stand, since prices only rose
@@ -91,7 +91,7 @@ module _ (t : Table) (m n : Market) (l : Lawful t) (s : Sound t m) (i j b : ℕ)
     points = y .points;
     pays = y .pays;
     capped = omega (arith, y .capped, cap-same t m n (x .phase));
-    content = λ a q z g. omega (arith, ints, y .content a q z g, rises a, x .phase .increment)
+    content = λ a q z g. omega (arith, ints, y .content a q z g, rises a, x .phase .increment);
   }
 
   counted : n .phase-accepted * n .increment ≤ sum (t .size) (n .price)
@@ -115,7 +115,7 @@ module _ (t : Table) (m n : Market) (l : Lawful t) (s : Sound t m) (i j b : ℕ)
     allowance = omega (arith, s .allowance, x .counts .composed, x .counts .allowance);
     shown = x .shown;
     marked = mark-kept t m n (x .mark) (s .marked);
-    ladder = ladder-same t m n (x .phase) (s .ladder)
+    ladder = ladder-same t m n (x .phase) (s .ladder);
   }
 
 -- the phase to come begins with an increment that falls to 1
@@ -143,7 +143,7 @@ module _ (t : Table) (m n : Market) (l : Lawful t) (s : Sound t m) (x : Advanced
       allowed = λ i k h. empty i k h;
       single = λ i j k h g. empty i k h;
       content = λ i j h. empty i j h;
-      vacant = λ k low v. high-over k low
+      vacant = λ k low v. high-over k low;
     };
     bids = λ i j b out. none-out i j b (sym (x .bids i) ∙ out);
     capped = λ k low. omega (arith, high-over k low);
@@ -152,7 +152,7 @@ module _ (t : Table) (m n : Market) (l : Lawful t) (s : Sound t m) (x : Advanced
     allowance = omega (arith, s .allowance, x .counts .composed, x .counts .allowance);
     shown = λ i k. omega (arith, x .shown i k, s .shown i k, x .price k);
     marked = mark-kept t m n (x .mark) (s .marked);
-    ladder = ladder-falls t m n (s .ladder) x .1
+    ladder = ladder-falls t m n (s .ladder) x .1;
   }
 
 module _ (t : Table) (m : Market) (x : Opened m) where
@@ -165,7 +165,7 @@ module _ (t : Table) (m : Market) (x : Opened m) where
       allowed = λ i k h. unseated i k h;
       single = λ i j k h g. unseated i k h;
       content = λ i j h. unseated i j h;
-      vacant = λ k low v. omega (arith, x .price k)
+      vacant = λ k low v. omega (arith, x .price k);
     };
     bids = λ i j b out. none-some (m .bid i) (record { seat = j; price = b }) (x .bid i) out;
     capped = λ k low. omega (arith, x .price k);
@@ -174,5 +174,5 @@ module _ (t : Table) (m : Market) (x : Opened m) where
     allowance = omega (arith, x .composed);
     shown = λ i k. omega (arith, x .shown i k);
     marked = λ i e. none-some (m .mark) i (x .mark) e;
-    ladder = x .ladder .falls
+    ladder = x .ladder .falls;
   }

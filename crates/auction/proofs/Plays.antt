@@ -50,7 +50,7 @@ kept-with m bids shown mark a b c = record {
   outbid = m .outbid + b;
   recalled = m .recalled + c;
   phase-accepted = m .phase-accepted;
-  allowance = m .allowance
+  allowance = m .allowance;
 }
 
 abbrev pub landed-with : Market → ℕ → ℕ → ℕ → Option ℕ → Market
@@ -69,7 +69,7 @@ landed-with m i j b d = record {
   outbid = m .outbid;
   recalled = m .recalled;
   phase-accepted = m .phase-accepted + 1;
-  allowance = m .allowance
+  allowance = m .allowance;
 }
 
 abbrev pub advanced-with : Table → Market → List ℕ → Market
@@ -89,7 +89,7 @@ advanced-with t m (e ∷ es) = record {
   outbid = m .outbid;
   recalled = m .recalled;
   phase-accepted = 0;
-  allowance = m .allowance
+  allowance = m .allowance;
 }
 
 -- the market that an event leaves
@@ -162,7 +162,7 @@ module _ (t : Table) (m : Market) where
         unmarked = none-of (m .mark) unmarked;
         free = none-of (m .seat i) free;
         idle = none-of (m .bid i) idle;
-        unspent = ltb-true (m .composed) (m .allowance) unspent
+        unspent = ltb-true (m .composed) (m .allowance) unspent;
       }
 
   -- a run that may bid composes the bid that fits, or is marked where it is hopeless
@@ -178,7 +178,7 @@ module _ (t : Table) (m : Market) where
         seats = seats-kept bids (m .shown) (m .mark) 1 0 0;
         bids = bids-put i (Some x) (m .shown) (m .mark) 1 0 0;
         shown = λ r k. refl;
-        mark = refl
+        mark = refl;
       }
 
   pub marking : (i : ℕ) → May-bid t m i → Hopeless t m (m .shown i) i → Marked t m (next t (marked i) m) i
@@ -190,7 +190,7 @@ module _ (t : Table) (m : Market) where
     seats = seats-kept (m .bid) (m .shown) (Some i) 0 0 0;
     bids = λ r. refl;
     shown = λ r k. refl;
-    mark = refl
+    mark = refl;
   }
 
   bidden-fits : (i j b : ℕ) (o : Option Found) → Answers t m (m .shown i) i o → bidden t m i j b o ≡ true → Best-bid t m (m .shown i) i j b
@@ -223,14 +223,15 @@ module _ (t : Table) (m : Market) where
     kept = λ r n f. put-other others i (Some j) r n ∙ cond-false (has d r) None (m .seat r) (false-has d r f);
     bids = record { here = put-here (m .bid) i None; other = λ r n. put-other (m .bid) i None r n };
     shown = λ r k. elim (cases-eq k j) [
-        inl f ↦ omega (arith, p .shown r k, ap (m .price) f, ap (put (m .price) j b) f, put-here (m .price) j b)
+      | inl f ↦ omega (arith, p .shown r k, ap (m .price) f, ap (put (m .price) j b) f, put-here (m .price) j b)
       | inr c ↦ omega (arith, p .shown r k, put-other (m .price) j b k c)
-      ];
-    mark = refl
+    ];
+    mark = refl;
   }
     where
       others : ℕ → Option ℕ
       others r = cond (has d r) None (m .seat r)
+
       gone : Displaced m i j d
       gone = subst (Displaced m i j) e (displaced m i j t p)
 
@@ -252,7 +253,7 @@ module _ (t : Table) (m : Market) where
     seats = seats-kept (put (m .bid) i None) (m .shown) (m .mark) 0 b c;
     bids = bids-put i None (m .shown) (m .mark) 0 b c;
     shown = λ r k. refl;
-    mark = refl
+    mark = refl;
   }
 
   -- a bid that is too low is outbid
@@ -263,7 +264,7 @@ module _ (t : Table) (m : Market) where
     dropped = drops i (record { seat = j; price = b }) 1 0 low out;
     price = refl;
     little = little;
-    counts = counts-kept (put (m .bid) i None) (m .shown) (m .mark) 0 1 0
+    counts = counts-kept (put (m .bid) i None) (m .shown) (m .mark) 0 1 0;
   }
 
   short-outbid : (i j p : ℕ) (o : Option Bid) → m .bid i ≡ o → i < t .size → m .mark ≡ None → falls-short m j p o ≡ true → Outbid t m (next t (outbid i j p) m) i j p
@@ -282,7 +283,7 @@ module _ (t : Table) (m : Market) where
       record {
         bid = x;
         dropped = drops i x 0 1 (ltb-true i (t .size) low) out;
-        counts = counts-kept (put (m .bid) i None) (m .shown) (m .mark) 0 0 1
+        counts = counts-kept (put (m .bid) i None) (m .shown) (m .mark) 0 0 1;
       }
 
   carries : (shown : ℕ → ℕ → ℕ) → ((i k : ℕ) → shown i k ≤ m .price k) → Carried m (kept-with m (m .bid) shown (m .mark) 0 0 0)
@@ -292,7 +293,7 @@ module _ (t : Table) (m : Market) where
     seats = seats-kept (m .bid) shown (m .mark) 0 0 0;
     bids = λ r. refl;
     shown = h;
-    mark = refl
+    mark = refl;
   }
 
   advances : follows t advanced m ≡ true → Advanced t m (next t advanced m)
@@ -316,7 +317,7 @@ module _ (t : Table) (m : Market) where
         seat = λ i. refl;
         bids = λ r. refl;
         shown = λ r k. refl;
-        mark = refl
+        mark = refl;
       }
 
 pub plays-step : (t : Table) (c : Event) (m : Market) → Lawful t → Playable t m → follows t c m ≡ true → Step t c m (next t c m)

@@ -51,7 +51,7 @@ module _ (t : Table) (f : ℤ) (q : ℕ → ℕ) (i : ℕ) where
     lowest = x .lowest;
     over-floor = x .over-floor;
     over-others = λ r s d a n. x .over-others r s (at r s d a) a n;
-    reached = elim (x .reached) [ inl e ↦ inl e | inr (r, s, d, a, n, e) ↦ inr (r, s, omega arith, a, n, e) ]
+    reached = elim (x .reached) [ inl e ↦ inl e | inr (r, s, d, a, n, e) ↦ inr (r, s, omega arith, a, n, e) ];
   }
     where
       at : (r : ℕ) (s : ℤ) → r < l → Pays t i r s → r < k
@@ -63,13 +63,13 @@ module _ (t : Table) (f : ℤ) (q : ℕ → ℕ) (i : ℕ) where
     below = omega arith;
     pays = a;
     most = λ r s d b. elim (ℕ-discrete r k) [
-        yes e ↦ at-seat (λ z. z ≤ℤ net (t .size) p (q k)) k r p s a b e (omega (arith, ints))
+      | yes e ↦ at-seat (λ z. z ≤ℤ net (t .size) p (q k)) k r p s a b e (omega (arith, ints))
       | no n ↦ unpaid 0 k r s gap (omega arith) (omega arith) b
-      ];
+    ];
     lowest = λ r s d b. unpaid 0 k r s gap (omega arith) d b;
     over-floor = omega (arith, ints);
     over-others = λ r s d b n. unpaid 0 k r s gap (omega arith) (omega arith) b;
-    reached = inl refl
+    reached = inl refl;
   }
 
   -- a better seat: the best so far counts among the others from now on
@@ -78,13 +78,13 @@ module _ (t : Table) (f : ℤ) (q : ℕ → ℕ) (i : ℕ) where
     below = omega arith;
     pays = a;
     most = λ r u d b. elim (ℕ-discrete r k) [
-        yes e ↦ at-seat (λ z. z ≤ℤ net (t .size) s (q k)) k r s u a b e (omega (arith, ints))
+      | yes e ↦ at-seat (λ z. z ≤ℤ net (t .size) s (q k)) k r s u a b e (omega (arith, ints))
       | no n ↦ omega (arith, ints, x .most r u (omega arith) b, h)
-      ];
+    ];
     lowest = λ r u d b. omega (arith, ints, x .most r u d b, h);
     over-floor = omega (arith, ints, x .over-floor, over-w);
     over-others = λ r u d b n. omega (arith, ints, x .most r u (omega arith) b, over-j);
-    reached = go from (x .reached)
+    reached = go from (x .reached);
   }
     where
       go : (v ≡ w) ⊎ (v ≡ net (t .size) p (q j)) → (w ≡ f) ⊎ Nets-below t q i k j w → (v ≡ f) ⊎ Nets-below t q i (suc k) k v
@@ -101,7 +101,7 @@ module _ (t : Table) (f : ℤ) (q : ℕ → ℕ) (i : ℕ) where
     lowest = x .lowest;
     over-floor = omega (arith, ints, x .over-floor, over-w);
     over-others = λ r u d b n. elim (ℕ-discrete r k) [ yes e ↦ at-seat (λ z. z ≤ℤ v) k r s u a b e over-k | no c ↦ omega (arith, ints, x .over-others r u (omega arith) b n, over-w) ];
-    reached = go from (x .reached)
+    reached = go from (x .reached);
   }
     where
       go : (v ≡ w) ⊎ (v ≡ net (t .size) s (q k)) → (w ≡ f) ⊎ Nets-below t q i k j w → (v ≡ f) ⊎ Nets-below t q i (suc k) j v
@@ -115,14 +115,14 @@ module _ (t : Table) (f : ℤ) (q : ℕ → ℕ) (i : ℕ) where
     seen-best = record {
       pays = x .pays;
       most = λ r s a. x .most r s (l .seats i r s a) a;
-      lowest = λ r s a d. x .lowest r s d a
+      lowest = λ r s a d. x .lowest r s d a;
     }
 
     pub seen-second : Second-value t f q i j w
     seen-second = record {
       over-floor = x .over-floor;
       over-others = λ r s a n. x .over-others r s (l .seats i r s a) a n;
-      reached = elim (x .reached) [ inl e ↦ inl e | inr (r, s, d, a, n, e) ↦ inr (r, s, a, n, e) ]
+      reached = elim (x .reached) [ inl e ↦ inl e | inr (r, s, d, a, n, e) ↦ inr (r, s, a, n, e) ];
     }
 
 -- the second value is no more than the best, if the floor is not
@@ -191,8 +191,10 @@ module _ (t : Table) (f : ℤ) (q : ℕ → ℕ) (i : ℕ) where
     where
       old : ℤ
       old = net (t .size) (x .points) (q (x .seat))
+
       new : ℤ
       new = net (t .size) p (q k)
+
       go : (c : Bool) → ltZ old new ≡ c → Knows t f q i (suc k) (Some (cond c (record { seat = k; points = p; second = larger (x .second) old }) (record { seat = x .seat; points = x .points; second = larger (x .second) new })))
       go true e = seen-better t f q i k (x .seat) (x .points) (x .second) p (larger (x .second) old) seen a (omega (arith, ints, lt-true old new e)) (larger-left (x .second) old) (larger-right (x .second) old) (larger-one (x .second) old)
       go false e = seen-other t f q i k (x .seat) (x .points) (x .second) p (larger (x .second) new) seen a (omega (arith, ints, lt-false old new e)) (larger-left (x .second) new) (larger-right (x .second) new) (larger-one (x .second) new)
@@ -235,10 +237,13 @@ module _ (t : Table) (m : Market) (q : ℕ → ℕ) (i : ℕ) where
         where
           v : ℤ
           v = net (t .size) (x .points) (q (x .seat))
+
           best : Best-seat t q i (x .seat) (x .points)
           best = seen-best t (floor t m) q i l (x .seat) (x .points) (x .second) seen
+
           second : Second-value t (floor t m) q i (x .seat) (x .second)
           second = seen-second t (floor t m) q i l (x .seat) (x .points) (x .second) seen
+
           by : (c : Bool) → ltZ v (floor t m) ≡ c → Answers (cond c None (Some x))
           by true e = λ k r a. omega (arith, ints, best .most k r a, lt-true v (floor t m) e)
           by false e =
@@ -249,5 +254,5 @@ module _ (t : Table) (m : Market) (q : ℕ → ℕ) (i : ℕ) where
                 above = above;
                 second = x .second;
                 value = second;
-                price = whole _ (omega (arith, ints, second-low t (floor t m) q i (x .seat) (x .points) (x .second) best second above))
+                price = whole _ (omega (arith, ints, second-low t (floor t m) q i (x .seat) (x .points) (x .second) best second above));
               }

@@ -31,10 +31,10 @@ module _ (t : Table) (m : Market) (q : ℕ → ℕ) (i : ℕ) where
   one-seat : (j k b c : ℕ) → Best-bid t m q i j b → Best-bid t m q i k c → j ≡ k
   one-seat j k b c x y =
       elim (cases-order j k) [
-        inl e ↦ e
-      | inr s ↦ elim s [
-          inl h ↦ absurd (omega (arith, ints, y .best .lowest j (x .points) (x .best .pays) h, x .best .most k (y .points) (y .best .pays)))
-        | inr h ↦ absurd (omega (arith, ints, x .best .lowest k (y .points) (y .best .pays) h, y .best .most j (x .points) (x .best .pays)))
+        | inl e ↦ e
+        | inr s ↦ elim s [
+          | inl h ↦ absurd (omega (arith, ints, y .best .lowest j (x .points) (x .best .pays) h, x .best .most k (y .points) (y .best .pays)))
+          | inr h ↦ absurd (omega (arith, ints, x .best .lowest k (y .points) (y .best .pays) h, y .best .most j (x .points) (x .best .pays)))
         ]
       ]
 
@@ -77,7 +77,7 @@ module _ (m n o : Market) where
     accepted = omega (arith, x .accepted, y .accepted);
     outbid = omega (arith, x .outbid, y .outbid);
     recalled = omega (arith, x .recalled, y .recalled);
-    allowance = y .allowance ∙ sym (x .allowance)
+    allowance = y .allowance ∙ sym (x .allowance);
   }
 
   phase-alike : SamePhase m n → SamePhase m o → SamePhase n o
@@ -85,14 +85,14 @@ module _ (m n o : Market) where
     phase = y .phase ∙ sym (x .phase);
     increment = y .increment ∙ sym (x .increment);
     later = y .later ∙ sym (x .later);
-    high = y .high ∙ sym (x .high)
+    high = y .high ∙ sym (x .high);
   }
 
   seats-alike : SameSeats m n → SameSeats m o → SameSeats n o
   seats-alike x y = record {
     price = λ k. y .price k ∙ sym (x .price k);
     seat = λ i. y .seat i ∙ sym (x .seat i);
-    accepted = y .accepted ∙ sym (x .accepted)
+    accepted = y .accepted ∙ sym (x .accepted);
   }
 
   bids-alike : (i : ℕ) (z : Option Bid) → BidSet m n i z → BidSet m o i z → SameBids n o
@@ -108,7 +108,7 @@ module _ (m n o : Market) where
     phase = phase-alike (x .phase) (y .phase);
     seats = seats-alike (x .seats) (y .seats);
     bids = bids-alike i (Some (record { seat = j; price = b })) (x .bids) (y .bids);
-    mark = y .mark ∙ sym (x .mark)
+    mark = y .mark ∙ sym (x .mark);
   }
 
   marked-alike : (t : Table) (i : ℕ) → Marked t m n i → Marked t m o i → Alike n o
@@ -117,7 +117,7 @@ module _ (m n o : Market) where
     phase = phase-alike (x .phase) (y .phase);
     seats = seats-alike (x .seats) (y .seats);
     bids = λ r. y .bids r ∙ sym (x .bids r);
-    mark = y .mark ∙ sym (x .mark)
+    mark = y .mark ∙ sym (x .mark);
   }
 
   outbid-alike : (t : Table) (i j k p q : ℕ) → Outbid t m n i j p → Outbid t m o i k q → Alike n o
@@ -126,7 +126,7 @@ module _ (m n o : Market) where
     phase = phase-alike (x .dropped .phase) (y .dropped .phase);
     seats = seats-alike (x .dropped .seats) (y .dropped .seats);
     bids = bids-alike i None (x .dropped .bids) (y .dropped .bids);
-    mark = y .dropped .mark ∙ sym (x .dropped .mark)
+    mark = y .dropped .mark ∙ sym (x .dropped .mark);
   }
 
   landed-alike : (t : Table) (i j b : ℕ) (d : Option ℕ) → Landed t m n i j b d → Landed t m o i j b d → Alike n o
@@ -136,15 +136,16 @@ module _ (m n o : Market) where
     seats = record {
       price = λ k. price k (ℕ-discrete k j);
       seat = λ r. seat r (ℕ-discrete r i) (is-some d r);
-      accepted = y .accepted ∙ sym (x .accepted)
+      accepted = y .accepted ∙ sym (x .accepted);
     };
     bids = bids-alike i None (x .bids) (y .bids);
-    mark = y .mark ∙ sym (x .mark)
+    mark = y .mark ∙ sym (x .mark);
   }
     where
       price : (k : ℕ) → Dec (k ≡ j) → o .price k ≡ n .price k
       price k (yes e) = ap (o .price) e ∙ y .raised ∙ sym (x .raised) ∙ ap (n .price) (sym e)
       price k (no c) = y .prices k c ∙ sym (x .prices k c)
+
       seat : (r : ℕ) → Dec (r ≡ i) → Dec (d ≡ Some r) → o .seat r ≡ n .seat r
       seat r (yes e) f = ap (o .seat) e ∙ y .seated ∙ sym (x .seated) ∙ ap (n .seat) (sym e)
       seat r (no c) (yes f) = y .freed r f ∙ sym (x .freed r f)
@@ -158,7 +159,7 @@ composing-is-single = record {
       let z : Composed t m o i j b = rw (p, q) y in
       (p, q, composed-alike m n o t i j b x z);
   apart = λ t m n o i j b x y. not-both t m (m .shown i) i j b (x .bid) (y .hopeless);
-  marked = λ t m n o i x y. marked-alike m n o t i x y
+  marked = λ t m n o i x y. marked-alike m n o t i x y;
 }
 
 same-option : (d e : Option ℕ) → ((r : ℕ) → d ≡ Some r → e ≡ Some r) → ((r : ℕ) → e ≡ Some r → d ≡ Some r) → d ≡ e
@@ -183,5 +184,5 @@ delivery-is-single = record {
       omega (arith, x .enough, y .little, f, ap (m .price) e);
   outbid = λ t m n o i j k p q x y.
       let (e, f) = same-bid j (x .offer) k (y .offer) (sym (x .dropped .out) ∙ y .dropped .out) in
-      (e, x .price ∙ ap (m .price) e ∙ sym (y .price), outbid-alike m n o t i j k p q x y)
+      (e, x .price ∙ ap (m .price) e ∙ sym (y .price), outbid-alike m n o t i j k p q x y);
 }

@@ -67,7 +67,7 @@ step-reached t c m n r s = record {
   start = r .start;
   opened = r .opened;
   events = r .events ++ (c ∷ []);
-  run = run-more t (r .events) c (r .start) m n (r .run) s
+  run = run-more t (r .events) c (r .start) m n (r .run) s;
 }
 
 -- in the last phase the increment is 1
@@ -125,8 +125,10 @@ delivery-answered t m i j b r unmarked out = go (decLe (m .price j + m .incremen
   where
     d : Sound t m
     d = sound t m r
+
     low : i < t .size
     low = let y = d .bids i j b out in r .lawful .runs i j (y .points) (y .pays)
+
     go : Dec (m .price j + m .increment ≤ b) → ((o : Option ℕ) × (n : Market) × Landed t m n i j b o) ⊎ ((n : Market) × Outbid t m n i j (m .price j))
     go (yes h) =
         let o : Option ℕ = holder m i j (t .size) in
@@ -142,7 +144,7 @@ settled-bid-lands = record {
       (o, landed-with x i j b o, landing t x (playable t x l d) i j b o (c .may .low) (c .mark ∙ c .may .unmarked) (c .bids .here) (settled-enough t m w x i j b s c) refl);
   only = λ t m w x n i j k b p r s c o.
       let (e, f) = same-bid j b k (o .offer) (sym (c .bids .here) ∙ o .dropped .out) in
-      omega (arith, settled-enough t m w x i j b s c, o .little, f, ap (x .price) e)
+      omega (arith, settled-enough t m w x i j b s c, o .little, f, ap (x .price) e);
 }
 
 -- the floor is no deeper than the cap is high
@@ -161,14 +163,14 @@ prices-capped : law.Prices-capped
 prices-capped t m r = let d = sound t m r in record {
   prices = d .capped;
   bids = λ i k b out. d .bids i k b out .capped;
-  depth = depth-low t m
+  depth = depth-low t m;
 }
 
 within-more : (t : Table) (m : Market) (c d : ℕ) → c ≤ d → Within t m c → Within t m d
 within-more t m c d h w = record {
   prices = λ k low. omega (arith, w .prices k low);
   bids = λ i k b out. omega (arith, w .bids i k b out);
-  depth = omega (arith, w .depth)
+  depth = omega (arith, w .depth);
 }
 
 -- what prices can come to by the last phase
@@ -188,9 +190,9 @@ advanced-ultimate t m n d s =
     let (k, low, e) = s .high .reached in
     let falls = Lands.ladder-falls t m n (d .ladder) s in
     rw (s .ladder) (
-      more-phases (m .high) (n .high) (length (n .later)) (t .size * (2 * ceiling t + n .increment)) (t .size * (2 * ceiling t + m .increment))
-      (omega (arith, e, d .capped k low))
-      (mul-le-mul-left (t .size) (omega (arith, falls .0)))
+    more-phases (m .high) (n .high) (length (n .later)) (t .size * (2 * ceiling t + n .increment)) (t .size * (2 * ceiling t + m .increment))
+    (omega (arith, e, d .capped k low))
+    (mul-le-mul-left (t .size) (omega (arith, falls .0)))
     )
 
 step-ultimate : (t : Table) (c : Event) (m n : Market) → Sound t m → Step t c m n → ultimate t n ≤ ultimate t m
@@ -263,5 +265,5 @@ auction-stands = record {
   composing = composing-is-single;
   composing-answered = composing-answered;
   delivery = delivery-is-single;
-  delivery-answered = delivery-answered
+  delivery-answered = delivery-answered;
 }
