@@ -1,12 +1,12 @@
 -- Where there is a full plan, each free run nets no less than the floor on its planned seat.
 use Prim.Native.Nat.{ℕ, suc, zero, _+_, _-_, _*_, _<_, _≤_}
-use mathlib.Core.Path.{_≡_, refl, sym, ap, subst, _∙_}
+use mathlib.Core.Path.{_≡_, sym, ap, subst, _∙_}
 use mathlib.Core.Logic.{_⊎_, inl, inr}
 use native.Mathlib.Omega.{arith}
 use native.Mathlib.Nat.{mul-le-mul-right}
 use native.Mathlib.Decide.{ℕ-discrete}
 use borrow.Author.Differences.{ints}
-use lib.IntN.{ℤ, pos, _+ℤ_, _-ℤ_, negℤ}
+use lib.IntN.{ℤ, pos, negℤ}
 use lib.Signed.{_≤ℤ_}
 use Rattle.std.proofs.shelf.Tests.{cases-order}
 use Rattle.points.specs.Tables.{Table, Pays, Lawful}

@@ -1,22 +1,17 @@
 -- Composing, marking, dropping and carrying keep the market sound.
 use Prim.Native.Nat.{ℕ, _+_, _*_, _<_, _≤_}
 use mathlib.Core.Path.{_≡_, refl, sym, ap, ap₂, subst, _∙_}
-use mathlib.Core.Logic.{_≢_}
-use mathlib.Core.List.{List}
 use native.Mathlib.Omega.{arith}
 use native.Mathlib.Decide.{ℕ-discrete}
 use borrow.Author.Differences.{ints}
-use lib.IntN.{ℤ, pos, _+ℤ_, _-ℤ_, negℤ}
-use lib.Signed.{_≤ℤ_, _<ℤ_}
 use Rattle.std.specs.declared.option.Option.{Option}
 use Rattle.std.specs.declared.option.Option.the-variants.{Some, None}
 use Rattle.points.specs.Tables.{Table, Pays, Lawful}
 use Rattle.points.specs.Plans.{FullPlan}
-use Rattle.points.specs.Sums.{sum}
 use Rattle.points.proofs.Sums.{sum-same, sum-set}
 use Rattle.points.proofs.Scales.{worth}
-use Rattle.auction.specs.Markets.{Bid, Market, Out, Shown-below, outs, bidsOut}
-use Rattle.auction.specs.Bids.{ceiling, depth, cap}
+use Rattle.auction.specs.Markets.{Bid, Market, Shown-below, outs, bidsOut}
+use Rattle.auction.specs.Bids.{ceiling, cap}
 use Rattle.auction.specs.Changes.{Counted, SamePhase, SameSeats, SameBids, BidSet, SameShown}
 use Rattle.auction.specs.Events.{Composed, Marked, Dropped, Outbid, Recalled, Carried}
 use Rattle.auction.specs.Runs.{FallsToOne}

@@ -1,12 +1,12 @@
 -- Landing and advancing keep the market sound, and it is sound when it opens.
-use Prim.Native.Nat.{ℕ, _+_, _*_, _<_, _≤_}
-use mathlib.Core.Path.{_≡_, refl, sym, ap, ap₂, subst, _∙_}
+use Prim.Native.Nat.{ℕ, _*_, _<_, _≤_}
+use mathlib.Core.Path.{_≡_, sym, ap, ap₂, subst, _∙_}
 use mathlib.Core.Logic.{_≢_, _⊎_, inl, inr}
-use mathlib.Core.List.{List, [], _∷_}
+use mathlib.Core.List.{List, _∷_}
 use native.Mathlib.Omega.{arith}
 use native.Mathlib.Decide.{ℕ-discrete}
 use borrow.Author.Differences.{ints}
-use lib.IntN.{ℤ, pos, _+ℤ_}
+use lib.IntN.{pos, _+ℤ_}
 use lib.Signed.{_≤ℤ_}
 use Rattle.std.specs.declared.option.Option.{Option}
 use Rattle.std.specs.declared.option.Option.the-variants.{Some, None}
@@ -15,7 +15,7 @@ use Rattle.points.specs.Nets.{scaled, net, Content}
 use Rattle.points.specs.Sums.{sum}
 use Rattle.points.proofs.Sums.{sum-set, sum-same, sum-const}
 use Rattle.points.proofs.Scales.{pays-allowed}
-use Rattle.auction.specs.Markets.{Bid, Market, Holds, Out, outs}
+use Rattle.auction.specs.Markets.{Market, Holds, Out, outs}
 use Rattle.auction.specs.Bids.{cap}
 use Rattle.auction.specs.Events.{Landed, Advanced}
 use Rattle.auction.specs.Runs.{FallsToOne, Opened}

@@ -14,7 +14,7 @@ use Rattle.points.specs.Tables.{Table, Lawful}
 use Rattle.auction.specs.Markets.{Bid, Market, Holds, Out, AllSeated}
 use Rattle.auction.specs.Bids.{floor, Best-bid, Hopeless}
 use Rattle.auction.specs.Changes.{Counted, SamePhase, SameSeats, BidSet}
-use Rattle.auction.specs.Events.{May-bid, Composed, Marked, Displaced, Landed, Dropped, Outbid, Recalled, Carried, Settled, Advanced, Event, composed, marked, landed, outbid, recalled, carried, settled, advanced, Step}
+use Rattle.auction.specs.Events.{May-bid, Composed, Marked, Displaced, Landed, Dropped, Outbid, Recalled, Carried, Advanced, Event, composed, marked, landed, outbid, recalled, carried, settled, advanced, Step}
 use Rattle.auction.proofs.Seeks.{Found, offer, judged, Answers, seek, answers}
 use Rattle.auction.proofs.Puts.{put, put-here, put-other, isNone, has, none-of, some-of, true-has, false-has, alike, alike-true}
 use Rattle.auction.proofs.Displaces.{holder, Playable, displaced}

@@ -1,21 +1,21 @@
 -- A call has one answer, and leaves one market but for what the board shows.
-use Prim.Native.Nat.{ℕ, _+_, _<_, _≤_}
+use Prim.Native.Nat.{ℕ}
 use mathlib.Core.Path.{_≡_, refl, sym, ap, subst, _∙_}
-use mathlib.Core.Logic.{_≢_, _⊎_, inl, inr}
+use mathlib.Core.Logic.{_⊎_, inl, inr}
 use native.Mathlib.Omega.{arith}
 use native.Mathlib.Decide.{ℕ-discrete}
 use borrow.Author.Differences.{ints}
-use lib.IntN.{ℤ, pos, _+ℤ_, _-ℤ_}
-use lib.Signed.{_≤ℤ_, _<ℤ_}
+use lib.IntN.{ℤ}
+use lib.Signed.{_≤ℤ_}
 use Rattle.std.proofs.shelf.Tests.{cases-order}
 use Rattle.std.specs.declared.option.Option.{Option}
 use Rattle.std.specs.declared.option.Option.the-variants.{Some, None}
 use Rattle.points.specs.Tables.{Table, Pays, Lawful}
-use Rattle.points.specs.Nets.{scaled, net}
-use Rattle.auction.specs.Markets.{Bid, Market, Holds}
+use Rattle.points.specs.Nets.{scaled}
+use Rattle.auction.specs.Markets.{Bid, Market}
 use Rattle.auction.specs.Bids.{floor, Nets-other, Second-value, Best-bid, Hopeless}
 use Rattle.auction.specs.Changes.{Counted, SamePhase, SameSeats, SameBids, BidSet, Alike}
-use Rattle.auction.specs.Events.{Composed, Marked, Displaced, Landed, Dropped, Outbid}
+use Rattle.auction.specs.Events.{Composed, Marked, Displaced, Landed, Outbid}
 use Rattle.auction.specs.Laws as law
 use Rattle.auction.proofs.Holders.{is-some, same-bid}
 use Rattle.auction.proofs.Seeks.{Found, Answers, judged, seek, offer, answers}

@@ -4,13 +4,12 @@ use mathlib.Core.Path.{_≡_}
 use mathlib.Core.Logic.{_≢_}
 use lib.IntN.{ℤ, pos, _+ℤ_}
 use lib.Signed.{_≤ℤ_}
-use Rattle.std.specs.declared.option.Option.{Option}
 use Rattle.std.specs.declared.option.Option.the-variants.{Some}
 use Rattle.points.specs.Tables.{Table, Pays, Allowed}
 use Rattle.points.specs.Nets.{net, Content}
 use Rattle.points.specs.Plans.{FullPlan}
 use Rattle.points.specs.Sums.{sum}
-use Rattle.auction.specs.Markets.{Bid, Market, Holds, Free, Vacant, Out, Shown-below, bidsOut}
+use Rattle.auction.specs.Markets.{Market, Holds, Free, Vacant, Out, Shown-below, bidsOut}
 use Rattle.auction.specs.Bids.{cap}
 use Rattle.auction.specs.Runs.{FallsToOne}
 

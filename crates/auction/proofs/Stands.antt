@@ -1,28 +1,25 @@
 -- The laws of the auction, from what holds between any two events.
-use Prim.Native.Nat.{ℕ, suc, zero, _+_, _-_, _*_, _<_, _≤_}
+use Prim.Native.Nat.{ℕ, suc, _+_, _-_, _*_, _<_, _≤_}
 use mathlib.Core.Path.{_≡_, refl, sym, ap, subst, _∙_}
 use mathlib.Core.List.{List, [], _∷_, _++_}
 use mathlib.Core.Logic.{_⊎_, inl, inr}
 use native.Mathlib.Omega.{arith}
-use native.Mathlib.Nat.{mul-le-mul, mul-le-mul-left, mul-le-mul-right}
+use native.Mathlib.Nat.{mul-le-mul, mul-le-mul-left}
 use native.Mathlib.Decide.{decLe}
 use borrow.Author.Differences.{ints}
 use lib.ListN.{length}
-use lib.IntN.{ℤ, pos, _+ℤ_, _-ℤ_}
-use lib.Signed.{_≤ℤ_}
 use Rattle.std.specs.declared.option.Option.{Option}
-use Rattle.std.specs.declared.option.Option.the-variants.{Some, None}
-use Rattle.points.specs.Tables.{Table, Pays, Lawful}
+use Rattle.points.specs.Tables.{Table, Lawful}
 use Rattle.points.specs.Nets.{priceLimit}
-use Rattle.points.specs.Plans.{FullPlan, Best, AllContent}
+use Rattle.points.specs.Plans.{AllContent}
 use Rattle.points.proofs.Sums.{sum-at-most}
 use Rattle.points.proofs.Scales.{worth}
 use Rattle.points.proofs.Optimal as Optimal
 use Rattle.auction.specs.Limits.{phaseLimit, incrementLimit, sizeLimit, topLimit}
-use Rattle.auction.specs.Markets.{Bid, Market, Out, planOf}
+use Rattle.auction.specs.Markets.{Market, planOf}
 use Rattle.auction.specs.Bids.{ceiling, depth, floor, cap, Best-bid, Hopeless}
 use Rattle.auction.specs.Changes.{SamePhase}
-use Rattle.auction.specs.Events.{May-bid, Composed, Marked, Landed, Outbid, Settled, Advanced, Event, composed, marked, landed, outbid, recalled, carried, settled, advanced, Step}
+use Rattle.auction.specs.Events.{Composed, Marked, Landed, Outbid, Settled, Advanced, Event, composed, marked, landed, outbid, recalled, carried, settled, advanced, Step}
 use Rattle.auction.specs.Runs.{Run, FallsToOne, Reached}
 use Rattle.auction.specs.Laws as law
 use Rattle.auction.specs.Laws.{Within}
