@@ -15,7 +15,8 @@ use Rattle.std.specs.declared.option.Option.the-variants.{Some, None}
 use Rattle.points.specs.Tables.{Table, Lawful}
 use Rattle.points.specs.Nets.{scaled}
 use Rattle.points.specs.Plans.{total}
-use Rattle.auction.specs.Limits.{phaseLimit, incrementLimit, topLimit}
+use Rattle.points.specs.Limits.{topLimit}
+use Rattle.auction.specs.Limits.{phaseLimit, incrementLimit}
 use Rattle.auction.specs.Markets.{Market, planOf}
 use Rattle.auction.specs.Bids.{ceiling, depth}
 use Rattle.auction.specs.Events.{Event, Step}

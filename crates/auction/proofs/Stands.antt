@@ -10,12 +10,12 @@ use borrow.Author.Differences.{ints}
 use lib.ListN.{length}
 use Rattle.std.specs.declared.option.Option.{Option}
 use Rattle.points.specs.Tables.{Table, Lawful}
-use Rattle.points.specs.Nets.{priceLimit}
+use Rattle.points.specs.Limits.{priceLimit, sizeLimit, topLimit}
 use Rattle.points.specs.Plans.{AllContent}
 use Rattle.points.proofs.Sums.{sum-at-most}
 use Rattle.points.proofs.Scales.{worth}
 use Rattle.points.proofs.Optimal as Optimal
-use Rattle.auction.specs.Limits.{phaseLimit, incrementLimit, sizeLimit, topLimit}
+use Rattle.auction.specs.Limits.{phaseLimit, incrementLimit}
 use Rattle.auction.specs.Markets.{Market, planOf}
 use Rattle.auction.specs.Bids.{ceiling, depth, floor, cap, Best-bid, Hopeless}
 use Rattle.auction.specs.Changes.{SamePhase}

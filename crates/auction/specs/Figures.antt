@@ -8,7 +8,7 @@ use Rattle.std.specs.declared.option.Option.{Option}
 use Rattle.std.specs.declared.option.Option.the-variants.{Some, None}
 use Rattle.points.specs.Tables.{Table, Lawful}
 use Rattle.points.specs.Plans.{total}
-use Rattle.auction.specs.Limits.{topLimit}
+use Rattle.points.specs.Limits.{topLimit}
 use Rattle.auction.specs.Markets.{Market, AllSeated, planOf}
 use Rattle.auction.specs.Events.{Event, composed, marked, landed, outbid, recalled, carried, settled, advanced, Step}
 use Rattle.auction.specs.Runs.{Run, Opened}

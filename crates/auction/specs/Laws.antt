@@ -8,9 +8,10 @@ use lib.Signed.{_≤ℤ_}
 use Rattle.std.specs.declared.option.Option.{Option}
 use Rattle.std.specs.declared.option.Option.the-variants.{Some, None}
 use Rattle.points.specs.Tables.{Table, Pays, Allowed, Lawful}
-use Rattle.points.specs.Nets.{priceLimit, scaled, net, Content}
+use Rattle.points.specs.Limits.{priceLimit, sizeLimit, topLimit}
+use Rattle.points.specs.Nets.{scaled, net, Content}
 use Rattle.points.specs.Plans.{FullPlan, Best, total}
-use Rattle.auction.specs.Limits.{phaseLimit, incrementLimit, sizeLimit, topLimit}
+use Rattle.auction.specs.Limits.{phaseLimit, incrementLimit}
 use Rattle.auction.specs.Markets.{Bid, Market, Holds, Free, Vacant, Out, AllSeated, Shown-below, planOf, bidsOut}
 use Rattle.auction.specs.Bids.{ceiling, depth, floor, cap, Best-bid, Hopeless}
 use Rattle.auction.specs.Changes.{Alike}

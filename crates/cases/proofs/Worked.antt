@@ -25,7 +25,9 @@ use Rattle.certificates.specs.Certificates.{checkerFault, certificateChecks}
 use Rattle.certificates.proofs.Accepts.{accepted, refused}
 use Rattle.boards.specs.Cases as boards
 use Rattle.boards.proofs.Worked as boardly
-use Rattle.cases.specs.Cases.{Case, board, Holds, All-hold, sheet-cases, checker-cases, worked-cases}
+use Rattle.auction.specs.Figures as auctions
+use Rattle.auction.proofs.Figures.{figures-hold}
+use Rattle.cases.specs.Cases.{Case, board, auction, Holds, All-hold, sheet-cases, checker-cases, worked-cases}
 
 -- a fault that is computed is the fault of a refusal
 faulted : (c : Checks) (f : Fault) → answer c ≡ Some f → Refuses c f
@@ -105,5 +107,13 @@ checker-holds =
       ),
     )
 
+auctions-hold : (cs : List auctions.Case) → auctions.All-hold cs → All-hold (map auction cs)
+auctions-hold [] h = tt
+auctions-hold (c ∷ cs) h = (h .0, auctions-hold cs (h .1))
+
 pub worked-hold : All-hold worked-cases
-worked-hold = joined-lists sheet-cases (checker-cases ++ map board boards.cases) sheets-hold (joined-lists checker-cases (map board boards.cases) checker-holds (boards-hold boards.cases boardly.worked))
+worked-hold =
+    let above : All-hold (map board boards.cases ++ map auction auctions.figures) =
+        joined-lists (map board boards.cases) (map auction auctions.figures) (boards-hold boards.cases boardly.worked) (auctions-hold auctions.figures figures-hold) in
+    joined-lists sheet-cases (checker-cases ++ (map board boards.cases ++ map auction auctions.figures)) sheets-hold
+    (joined-lists checker-cases (map board boards.cases ++ map auction auctions.figures) checker-holds above)

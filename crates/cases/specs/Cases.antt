@@ -14,6 +14,7 @@ use Rattle.sheets.specs.Merging.{Merged}
 use Rattle.sheets.specs.Examples.{twoRuns, touching, joined, toTheEnd, pastTheEnd}
 use Rattle.certificates.specs.Certificates.{Accepted, Refused, checkerFault}
 use Rattle.boards.specs.Cases as boards
+use Rattle.auction.specs.Figures as auctions
 
 pub data Case : Type 0 where
   -- a sheet that keeps the rules
@@ -30,6 +31,8 @@ pub data Case : Type 0 where
   refuses : List ℕ → List ℕ → List ℕ → Fault → Case
   -- calls on a board
   board : boards.Case → Case
+  -- events of an auction
+  auction : auctions.Case → Case
 
 -- what the contracts' relations say of a case
 abbrev pub Holds : Case → Type 0
@@ -40,6 +43,7 @@ Holds (merges bs cs i j) = Merged bs cs i j
 Holds (accepts bs seats prices a) = Accepted (sheetTable bs) seats prices a
 Holds (refuses bs seats prices f) = Refused (sheetTable bs) seats prices f
 Holds (board c) = boards.Holds c
+Holds (auction c) = auctions.Case-holds c
 
 abbrev pub All-hold : List Case → Type 0
 All-hold [] = Unit {0}
@@ -77,7 +81,7 @@ checker-cases =
 
 -- the one list
 abbrev pub worked-cases : List Case
-worked-cases = sheet-cases ++ (checker-cases ++ map board boards.cases)
+worked-cases = sheet-cases ++ (checker-cases ++ (map board boards.cases ++ map auction auctions.figures))
 
 -- all of the worked cases hold
 abbrev pub Worked-cases-hold : Type 0
