@@ -32,13 +32,15 @@ impl PriceRow {
         }
     }
 
-    // Puts a price at a seat.
+    // Puts a price at a seat; a seat past the row has no place in it.
     pub fn put(&mut self, seat: usize, x: u64)
-        requires { ⌜ seat < seatLimit ⌝ }
-        ensures here { λ _. ⌜ at (now (self .exit)) seat ≡ x ⌝ }
+        ensures here { λ _. ⌜ (seat < seatLimit → at (now (self .exit)) seat ≡ x) ⌝ }
         ensures elsewhere { λ _. ⌜ ((k : ℕ) → k ≢ seat → at (now (self .exit)) k ≡ at (now (self .entry)) k) ⌝ }
+        ensures past { λ _. ⌜ (seatLimit ≤ seat → now (self .exit) ≡ now (self .entry)) ⌝ }
     {
-        self.prices[seat] = x;
+        if seat < SEAT_LIMIT {
+            self.prices[seat] = x;
+        }
     }
 
     // Whether a board of this size with these told prices takes a telling.

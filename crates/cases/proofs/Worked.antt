@@ -114,6 +114,6 @@ auctions-hold (c ∷ cs) h = (h .0, auctions-hold cs (h .1))
 pub worked-hold : All-hold worked-cases
 worked-hold =
     let above : All-hold (map board boards.cases ++ map auction auctions.figures) =
-        joined-lists (map board boards.cases) (map auction auctions.figures) (boards-hold boards.cases boardly.worked) (auctions-hold auctions.figures figures-hold) in
+    joined-lists (map board boards.cases) (map auction auctions.figures) (boards-hold boards.cases boardly.worked) (auctions-hold auctions.figures figures-hold) in
     joined-lists sheet-cases (checker-cases ++ (map board boards.cases ++ map auction auctions.figures)) sheets-hold
     (joined-lists checker-cases (map board boards.cases ++ map auction auctions.figures) checker-holds above)
