@@ -1,0 +1,2 @@
+// The auction: its laws over every run of events.
+pub mod theorems;
