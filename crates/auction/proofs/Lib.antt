@@ -8,3 +8,4 @@ pub mod Singles
 pub mod Plays
 pub mod Stands
 pub mod Figures
+pub mod Finds

@@ -59,3 +59,79 @@ pub(crate) fn bid_price(worth: i64, second: i64, increment: u64) -> u64
 {
     worth.abs_diff(second).saturating_add(increment)
 }
+
+// One seat more, if it is allowed.
+pub(crate) fn take_seat<S: RowSource, B: PriceBoard>(
+    source: &S,
+    board: &B,
+    size: u16,
+    floor: i64,
+    run: usize,
+    seat: usize,
+    found: Option<Sought>,
+) -> Option<Sought>
+    ensures { λ r. ⌜ r ≡ taken size floor (limitedTo (B·PriceBoard .face (now (board .entry))) run) seat (S·PairSource .table (now (source .entry)) .points run seat) found ⌝ }
+{
+    match source.points(run, seat) {
+        None => found,
+        Some(points) => {
+            let net = net_points(size, points, board.shows(run, seat));
+            Some(weigh(found, seat, worth_points(size, points), net, floor))
+        }
+    }
+}
+
+// Every allowed seat of a run, from the lowest on.
+pub(crate) fn take_seats<S: RowSource, B: PriceBoard>(
+    source: &S,
+    board: &B,
+    size: u16,
+    floor: i64,
+    run: usize,
+) -> Option<Sought>
+    requires { ⌜ size ≡ S·PairSource .table (now source) .size ⌝ }
+    ensures { λ r. ⌜ Seeks (S·PairSource .table (now (source .entry))) floor (limitedTo (B·PriceBoard .face (now (board .entry))) run) run r ⌝ }
+{
+    let mut found: Option<Sought> = None;
+    let mut from = 0;
+    while let Some(seat) = source.next(run, from) {
+        found = take_seat(source, board, size, floor, run, seat, found);
+        from = seat + 1;
+    }
+    found
+}
+
+// The best seat of a run at the prices that it is shown, or nothing where no seat is allowed to it.
+// Terms of another size than the source's find nothing.
+pub fn seek<S: RowSource, B: PriceBoard>(
+    source: &S,
+    board: &B,
+    terms: &Terms,
+    run: usize,
+) -> Option<Sought>
+    ensures finds { λ r. ⌜ (now (terms .entry) .size ≡ S·PairSource .table (now (source .entry)) .size → Seeks (S·PairSource .table (now (source .entry))) (termsFloor (now (terms .entry))) (limitedTo (B·PriceBoard .face (now (board .entry))) run) run r) ⌝ }
+    ensures other { λ r. ⌜ (now (terms .entry) .size ≢ S·PairSource .table (now (source .entry)) .size → r ≡ None) ⌝ }
+{
+    if usize::from(terms.size) != source.size() {
+        return None;
+    }
+    take_seats(source, board, terms.size, terms.floor(), run)
+}
+
+// What is offered on what a search found: nothing where that nets less than the floor.
+pub fn offer(terms: &Terms, found: Option<Sought>) -> Option<Offer>
+    ensures { λ r. ⌜ r ≡ offered (termsFloor (now (terms .entry))) (now (terms .entry) .increment) found ⌝ }
+{
+    match found {
+        None => None,
+        Some(best) => {
+            if best.net < terms.floor() {
+                return None;
+            }
+            Some(Offer {
+                seat: best.seat,
+                price: bid_price(best.worth, best.second, terms.increment),
+            })
+        }
+    }
+}
