@@ -80,9 +80,8 @@ module _ (t : Table) (f : ℤ) (q : ℕ → ℕ) (i : ℕ) where
   }
 
   -- the next allowed seat
-  pub known-more : (from k : ℕ) (p : ℤ) (o : Option Sought) → from ≤ k → Gap t i from k → Pays t i k p → Knows-below t f q i from o → Knows-below t f q i (k + 1) (taken (t .size) f q k (t .points i k) o)
-  known-more from k p o h gap a x =
-      rw (add-one, a) (weighed-known k p o a (known-skip from k o h gap x))
+  pub known-more : (n from k : ℕ) (p : ℤ) (o r : Option Sought) → n ≡ t .size → r ≡ taken n f q k (t .points i k) o → from ≤ k → Gap t i from k → Pays t i k p → Knows-below t f q i from o → Knows-below t f q i (k + 1) r
+  known-more n from k p o r e is h gap a x = rw (is, e, add-one, a) (weighed-known k p o a (known-skip from k o h gap x))
 
   -- the search is over
   pub known-end : Lawful t → (o : Option Sought) → Knows-below t f q i (t .size) o → Seeks t f q i o

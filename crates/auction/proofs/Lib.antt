@@ -9,3 +9,5 @@ pub mod Plays
 pub mod Stands
 pub mod Figures
 pub mod Finds
+pub mod Deep
+pub mod Composed

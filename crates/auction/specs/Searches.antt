@@ -41,9 +41,17 @@ Terms-of t m x = Has-terms (t .size) (t .top) (m .increment) (m .high) x
 abbrev pub limitedTo : Face → ℕ → ℕ → ℕ
 limitedTo f i k = min (f .shown i k) priceLimit
 
+-- no run is shown a price above the told one, as on every sound board
+abbrev pub Shown-behind : Face → Type 0
+Shown-behind f = (i k : ℕ) → f .shown i k ≤ f .told k
+
 -- no told price is over the limit
 abbrev pub Told-within : Face → Type 0
 Told-within f = (k : ℕ) → f .told k ≤ priceLimit
+
+-- where no told price is over the limit, the price is taken as it is shown
+abbrev pub Limit-changes-nothing : Type 0
+Limit-changes-nothing = (f : Face) → Shown-behind f → Told-within f → (i k : ℕ) → limitedTo f i k ≡ f .shown i k
 
 -- seat k, of scaled points u and net v, put beside what was found below it, with f as the floor
 abbrev pub weighed : Option Sought → ℕ → ℤ → ℤ → ℤ → Sought

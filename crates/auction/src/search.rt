@@ -135,3 +135,16 @@ pub fn offer(terms: &Terms, found: Option<Sought>) -> Option<Offer>
         }
     }
 }
+
+// The bid of a run at the prices that it is shown, or nothing where it is hopeless.
+pub fn compose_bid<S: RowSource, B: PriceBoard>(
+    source: &S,
+    board: &B,
+    terms: &Terms,
+    run: usize,
+) -> Option<Offer>
+    ensures limited { λ r. ⌜ ((m : Market) → Terms-of (S·PairSource .table (now (source .entry))) m (now (terms .entry)) → Composes (S·PairSource .table (now (source .entry))) m (limitedTo (B·PriceBoard .face (now (board .entry))) run) run r) ⌝ }
+    ensures shown { λ r. ⌜ (B·PriceBoard .sound (now (board .entry)) → Told-within (B·PriceBoard .face (now (board .entry))) → (m : Market) → Terms-of (S·PairSource .table (now (source .entry))) m (now (terms .entry)) → Composes (S·PairSource .table (now (source .entry))) m (B·PriceBoard .face (now (board .entry)) .shown run) run r) ⌝ }
+{
+    offer(terms, seek(source, board, terms, run))
+}

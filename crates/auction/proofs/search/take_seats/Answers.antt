@@ -1,18 +1,15 @@
 use native.Mathlib.Omega.{arith}
-use borrow.Author.Differences.{ints}
 use Prim.Native.Nat.{ℕ, _≤_, _<_, _+_}
-use mathlib.Core.Path.{_≡_, sym, ap, ap₂, subst, _∙_}
+use mathlib.Core.Path.{_≡_, subst}
 use lib.IntN.{ℤ}
 use mir.Syntax.{w64}
 use mir.Val.{toZ, ofZ}
-use Rattle.std.specs.declared.option.Option.{Option}
 use Rattle.std.proofs.shelf.Signed.{toZ-ofZ}
 use Rattle.points.specs.Tables.{Table, Pays}
 use Rattle.points.proofs.Rows.{allowed-below}
 use Rattle.points.proofs.Scales.{worth}
-use Rattle.auction.specs.declared.sought.Sought.{Sought}
-use Rattle.auction.specs.Searches.{limitedTo, taken, Seeks}
-use Rattle.auction.proofs.Finds.{Knows-below, known-skip, known-more, known-end}
+use Rattle.auction.specs.Searches.{limitedTo, Seeks}
+use Rattle.auction.proofs.Finds.{known-skip, known-more, known-end}
 use Rattle.auction.proofs.search.take_seats.Given.{Over}
 use Rattle.auction.proofs.search.take_seats.Needs as need
 
@@ -36,11 +33,9 @@ loop-seat-again g c =
     let k : ℕ = c .in-Some .seat in
     let e = c .in-Some .ensures tt in
     let (p, a) = worth t i k (e .1) in
-    let is : c .take-seat-found .result ≡ taken (t .size) f q k (t .points i k) (c .loop-seat .found) =
-    c .take-seat-found .ensures ∙ ap (λ (n : ℕ). taken n f q k (t .points i k) (c .loop-seat .found)) (c .pre) in
     (
       omega (arith, below g c),
-      subst (Knows-below t f q i (k + 1)) (sym is) (known-more t f q i (c .loop-seat .from) k p (c .loop-seat .found) (e .0) (e .2) a (c .loop-seat .inv .1)),
+      known-more t f q i (c .args .size) (c .loop-seat .from) k p (c .loop-seat .found) (c .take-seat-found .result) (c .pre) (c .take-seat-found .ensures) (e .0) (e .2) a (c .loop-seat .inv .1),
     )
 
 pub returns : need.returns
