@@ -11,3 +11,6 @@ pub mod Heights
 pub mod Plays
 pub mod Stands
 pub mod Figures
+pub mod Finds
+pub mod Deep
+pub mod Composed

@@ -6,3 +6,5 @@ pub mod Events
 pub mod Runs
 pub mod Laws
 pub mod Figures
+pub mod Depths
+pub mod Searches
