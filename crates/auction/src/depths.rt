@@ -10,7 +10,7 @@ use crate::terms::INCREMENT_LIMIT;
 use crate::terms::SIZE_LIMIT;
 use crate::terms::TOP_LIMIT;
 use crate::terms::Terms;
-use points::nets::PRICE_LIMIT;
+use points::limits::PRICE_LIMIT;
 
 impl Terms {
     // The terms of these numbers, or nothing where one is outside its limits.
