@@ -3,8 +3,10 @@ use crate::messages::Stop;
 use crate::messages::StopFromLines;
 use crate::messages::fail;
 use crate::messages::refuse;
+use commands::bids::bid_sheet;
 use commands::calls::check_sheet;
 use commands::calls::show_sheet;
+use commands::first_bid::BidLineDisplay;
 use commands::lines::AcceptedLineDisplay;
 use commands::lines::SheetLineDisplay;
 use std::fs;
@@ -40,5 +42,20 @@ pub fn check_files(rt: &LibcRuntime, sheet: &str, certificate: &str) -> Result<(
             Ok(())
         }
         Err(failure) => fail(rt, certificate, failure),
+    }
+}
+
+pub fn bid_file(rt: &LibcRuntime, sheet: &str, run: &str) -> Result<(), Stop> {
+    let Ok(number) = run.parse::<usize>() else {
+        eprintln!(rt, "mivunduth: `{run}` is no number of a run")?;
+        return Err(Stop::Said);
+    };
+    let bytes = read_file(rt, sheet)?;
+    match bid_sheet(rt.alloc(), bytes, number) {
+        Ok(line) => {
+            println!(rt, "{line}")?;
+            Ok(())
+        }
+        Err(fault) => refuse(rt, fault),
     }
 }

@@ -2,6 +2,7 @@
 mod files;
 mod messages;
 
+use crate::files::bid_file;
 use crate::files::check_files;
 use crate::files::show_file;
 use crate::messages::Stop;
@@ -28,6 +29,11 @@ fn run(rt: &LibcRuntime, words: &[String]) -> Result<(), Stop> {
             Ok(())
         }
         [command, sheet] if command.as_str() == "show" => show_file(rt, sheet.as_str()),
+        [command, sheet, run] if command.as_str() == "bid" => bid_file(
+            rt,
+            sheet.as_str(),
+            run.as_str(),
+        ),
         [command, sheet, certificate] if command.as_str() == "check" => check_files(
             rt,
             sheet.as_str(),

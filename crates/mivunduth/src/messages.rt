@@ -38,6 +38,7 @@ pub impl<T: Drop> From<Refused<T>> for Stop as StopFromRefused {
 pub const USAGE: &str =
     "usage: mivunduth check SHEET CERTIFICATE   check that a plan is best, and print its total
        mivunduth show SHEET                what a benefit sheet comes to
+       mivunduth bid SHEET RUN             a run's bid at increment 1 while no seat has a price
        mivunduth --help                    this text
 
 SHEET is a benefit sheet, CERTIFICATE a file of n seats (u16) and n prices (u64),

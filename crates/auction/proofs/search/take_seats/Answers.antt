@@ -32,8 +32,7 @@ loop-seat-again g c =
     let q : ℕ → ℕ = limitedTo (g .B·PriceBoard .face (c .args .board .now)) i in
     let k : ℕ = c .in-Some .seat in
     let e = c .in-Some .ensures tt in
-    let (p, a) = worth t i k (e .1) in
-    (
+    let (p, a) = worth t i k (e .1) in (
       omega (arith, below g c),
       known-more t f q i (c .args .size) (c .loop-seat .from) k p (c .loop-seat .found) (c .take-seat-found .result) (c .pre) (c .take-seat-found .ensures) (e .0) (e .2) a (c .loop-seat .inv .1),
     )
@@ -46,7 +45,7 @@ returns g c =
     let i : ℕ = c .args .run in
     let q : ℕ → ℕ = limitedTo (g .B·PriceBoard .face (c .args .board .now)) i in
     subst (λ (z : ℤ). Seeks t z q i (c .loop-seat .found)) (toZ-ofZ w64 (c .args .floor) (c .fits .floor)) (
-      known-end t f q i (g .S·PairSource·met .lawful s) (c .loop-seat .found) (
-        known-skip t f q i (c .loop-seat .from) (t .size) (c .loop-seat .found) (c .loop-seat .inv .0) (λ k a b. c .in-rest .ensures tt k a) (c .loop-seat .inv .1)
-      )
+    known-end t f q i (g .S·PairSource·met .lawful s) (c .loop-seat .found) (
+    known-skip t f q i (c .loop-seat .from) (t .size) (c .loop-seat .found) (c .loop-seat .inv .0) (λ k a b. c .in-rest .ensures tt k a) (c .loop-seat .inv .1)
+    )
     )
