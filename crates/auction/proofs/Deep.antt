@@ -11,7 +11,7 @@ use Rattle.auction.specs.Depths.{depthOf, floorOf}
 use Rattle.auction.specs.Searches.{termsFloor, Terms-of}
 
 pub floors-agree : (t : Table) (m : Market) → floorOf (t .size) (t .top) (m .increment) (m .high) ≡ floor t m
-unfolding depthOf depth ceiling
+unfolding depth ceiling
 floors-agree t m = refl
 
 -- the floor of a market's terms is the market's
@@ -20,7 +20,6 @@ terms-floor t m x of = let e = floors-agree t m in cc
 
 -- the depth of terms is far from the largest u64
 pub depth-low : (x : Terms) → depthOf (x .size) (x .top) (x .increment) (x .high) ≤ 5000000000000000
-unfolding depthOf
 depth-low x =
     let a : 2 * x .size - 1 ≤ 511 = omega (arith, x .few) in
     let b : x .size + 1 ≤ 257 = omega (arith, x .few) in

@@ -9,7 +9,7 @@ use Rattle.auction.specs.Markets.{Market}
 use Rattle.auction.specs.Bids.{floor}
 
 -- the depth at n seats, a top, an increment e and a high price h
-unfoldable pub depthOf : ℕ → ℕ → ℕ → ℕ → ℕ
+abbrev pub depthOf : ℕ → ℕ → ℕ → ℕ → ℕ
 depthOf n top e h = (2 * n - 1) * ((n + 1) * top) + (n - 1) * e + h
 
 abbrev pub floorOf : ℕ → ℕ → ℕ → ℕ → ℤ
