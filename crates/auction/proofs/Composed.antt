@@ -59,11 +59,11 @@ module _ (t : Table) (l : Lawful t) (m : Market) (q : ℕ → ℕ) (i : ℕ) (x 
             price = omega (arith, ints, price, found .worth, of .increment);
           }
 
-  pub composed : (o : Option Sought) (r : Option Offer) → (x .size ≡ t .size → Seeks t (termsFloor x) q i o) → r ≡ offered (termsFloor x) (x .increment) o → Composes t m q i r
-  composed o r found e = rw e (offered-is o (found (of .size)))
+  pub composed : (o : Option Sought) (r : Option Offer) → r ≡ offered (termsFloor x) (x .increment) o → Seeks t (termsFloor x) q i o → Composes t m q i r
+  composed o r e found = rw e (offered-is o found)
 
--- where no told price is over the limit, the offer is the bid at the shown prices
-pub at-shown : (t : Table) (m : Market) (f : Face) (i : ℕ) (r : Option Offer) → Shown-behind f → Told-within f → Composes t m (limitedTo f i) i r → Composes t m (f .shown i) i r
-at-shown t m f i r behind within h =
+-- where no told price is over the limit, what is found is found at the shown prices
+pub at-shown : (t : Table) (z : ℤ) (f : Face) (i : ℕ) (o : Option Sought) → Shown-behind f → Told-within f → Seeks t z (limitedTo f i) i o → Seeks t z (f .shown i) i o
+at-shown t z f i o behind within h =
     let e : limitedTo f i ≡ f .shown i = fun-ext (limit-idle f behind within i) in
-    subst (λ (q : ℕ → ℕ). Composes t m q i r) e h
+    subst (λ (q : ℕ → ℕ). Seeks t z q i o) e h

@@ -79,6 +79,10 @@ abbrev pub Seeks : Table → ℤ → (ℕ → ℕ) → ℕ → Option Sought →
 Seeks t f q i None = (k : ℕ) → t .points i k ≡ None
 Seeks t f q i (Some s) = Finds t f q i s
 
+-- that holds of a search by the terms, if they are of the table's size
+abbrev pub Seeks-at : Table → Terms → (ℕ → ℕ) → ℕ → Option Sought → Type 0
+Seeks-at t x q i o = x .size ≡ t .size → Seeks t (termsFloor x) q i o
+
 -- the price for which a seat of scaled points u leaves w, and the increment more; it stops at the largest u64
 abbrev pub priced : ℤ → ℤ → ℕ → ℕ
 priced u w e = min (natAbs (u -ℤ w) + e) 18446744073709551615
@@ -92,3 +96,7 @@ offered f e (Some s) = cond (ltZ (s .net) f) None (Some (record { seat = s .seat
 abbrev pub Composes : Table → Market → (ℕ → ℕ) → ℕ → Option Offer → Type 0
 Composes t m q i None = Hopeless t m q i
 Composes t m q i (Some o) = Best-bid t m q i (o .seat) (o .price)
+
+-- that holds of the bid by the terms, for every market whose terms they are
+abbrev pub Bids-at : Table → Terms → (ℕ → ℕ) → ℕ → Option Offer → Type 0
+Bids-at t x q i r = (m : Market) → Terms-of t m x → Composes t m q i r

@@ -1,12 +1,9 @@
 // The search for a run's bid, over every row source and every price board.
 ghost use mathlib.Core.Path.{_≡_};
 ghost use mathlib.Core.Logic.{_≢_};
-ghost use Prim.Native.Nat.{ℕ, min};
-ghost use lib.IntN.{ℤ};
 ghost use Rattle.std.specs.declared.option.Option.the-variants.{None};
 ghost use Rattle.points.specs.Nets.{scaled};
-ghost use Rattle.auction.specs.Markets.{Market};
-ghost use Rattle.auction.specs.Searches.{Terms-of, termsFloor, limitedTo, Told-within, weighed, taken, Seeks, priced, offered, Composes};
+ghost use Rattle.auction.specs.Searches.{termsFloor, limitedTo, Told-within, weighed, taken, Seeks, Seeks-at, priced, offered, Bids-at};
 use crate::sought::Offer;
 use crate::sought::Sought;
 use crate::terms::Terms;
@@ -90,7 +87,8 @@ pub(crate) fn take_seats<S: RowSource, B: PriceBoard>(
     run: usize,
 ) -> Option<Sought>
     requires { ⌜ size ≡ S·PairSource .table (now source) .size ⌝ }
-    ensures { λ r. ⌜ Seeks (S·PairSource .table (now (source .entry))) floor (limitedTo (B·PriceBoard .face (now (board .entry))) run) run r ⌝ }
+    ensures limited { λ r. ⌜ Seeks (S·PairSource .table (now (source .entry))) floor (limitedTo (B·PriceBoard .face (now (board .entry))) run) run r ⌝ }
+    ensures shown { λ r. ⌜ (B·PriceBoard .sound (now (board .entry)) → Told-within (B·PriceBoard .face (now (board .entry))) → Seeks (S·PairSource .table (now (source .entry))) floor (B·PriceBoard .face (now (board .entry)) .shown run) run r) ⌝ }
 {
     let mut found: Option<Sought> = None;
     let mut from = 0;
@@ -109,7 +107,8 @@ pub fn seek<S: RowSource, B: PriceBoard>(
     terms: &Terms,
     run: usize,
 ) -> Option<Sought>
-    ensures finds { λ r. ⌜ (now (terms .entry) .size ≡ S·PairSource .table (now (source .entry)) .size → Seeks (S·PairSource .table (now (source .entry))) (termsFloor (now (terms .entry))) (limitedTo (B·PriceBoard .face (now (board .entry))) run) run r) ⌝ }
+    ensures limited { λ r. ⌜ Seeks-at (S·PairSource .table (now (source .entry))) (now (terms .entry)) (limitedTo (B·PriceBoard .face (now (board .entry))) run) run r ⌝ }
+    ensures shown { λ r. ⌜ (B·PriceBoard .sound (now (board .entry)) → Told-within (B·PriceBoard .face (now (board .entry))) → Seeks-at (S·PairSource .table (now (source .entry))) (now (terms .entry)) (B·PriceBoard .face (now (board .entry)) .shown run) run r) ⌝ }
     ensures other { λ r. ⌜ (now (terms .entry) .size ≢ S·PairSource .table (now (source .entry)) .size → r ≡ None) ⌝ }
 {
     if usize::from(terms.size) != source.size() {
@@ -136,6 +135,22 @@ pub fn offer(terms: &Terms, found: Option<Sought>) -> Option<Offer>
     }
 }
 
+// The bid of a run on what its search found.
+pub(crate) fn bid_on<S: RowSource, B: PriceBoard>(
+    source: &S,
+    board: &B,
+    terms: &Terms,
+    run: usize,
+    found: Option<Sought>,
+) -> Option<Offer>
+    requires limited { ⌜ Seeks-at (S·PairSource .table (now source)) (now terms) (limitedTo (B·PriceBoard .face (now board)) run) run found ⌝ }
+    requires shown { ⌜ (B·PriceBoard .sound (now board) → Told-within (B·PriceBoard .face (now board)) → Seeks-at (S·PairSource .table (now source)) (now terms) (B·PriceBoard .face (now board) .shown run) run found) ⌝ }
+    ensures limited { λ r. ⌜ Bids-at (S·PairSource .table (now (source .entry))) (now (terms .entry)) (limitedTo (B·PriceBoard .face (now (board .entry))) run) run r ⌝ }
+    ensures shown { λ r. ⌜ (B·PriceBoard .sound (now (board .entry)) → Told-within (B·PriceBoard .face (now (board .entry))) → Bids-at (S·PairSource .table (now (source .entry))) (now (terms .entry)) (B·PriceBoard .face (now (board .entry)) .shown run) run r) ⌝ }
+{
+    offer(terms, found)
+}
+
 // The bid of a run at the prices that it is shown, or nothing where it is hopeless.
 pub fn compose_bid<S: RowSource, B: PriceBoard>(
     source: &S,
@@ -143,8 +158,8 @@ pub fn compose_bid<S: RowSource, B: PriceBoard>(
     terms: &Terms,
     run: usize,
 ) -> Option<Offer>
-    ensures limited { λ r. ⌜ ((m : Market) → Terms-of (S·PairSource .table (now (source .entry))) m (now (terms .entry)) → Composes (S·PairSource .table (now (source .entry))) m (limitedTo (B·PriceBoard .face (now (board .entry))) run) run r) ⌝ }
-    ensures shown { λ r. ⌜ (B·PriceBoard .sound (now (board .entry)) → Told-within (B·PriceBoard .face (now (board .entry))) → (m : Market) → Terms-of (S·PairSource .table (now (source .entry))) m (now (terms .entry)) → Composes (S·PairSource .table (now (source .entry))) m (B·PriceBoard .face (now (board .entry)) .shown run) run r) ⌝ }
+    ensures limited { λ r. ⌜ Bids-at (S·PairSource .table (now (source .entry))) (now (terms .entry)) (limitedTo (B·PriceBoard .face (now (board .entry))) run) run r ⌝ }
+    ensures shown { λ r. ⌜ (B·PriceBoard .sound (now (board .entry)) → Told-within (B·PriceBoard .face (now (board .entry))) → Bids-at (S·PairSource .table (now (source .entry))) (now (terms .entry)) (B·PriceBoard .face (now (board .entry)) .shown run) run r) ⌝ }
 {
-    offer(terms, seek(source, board, terms, run))
+    bid_on(source, board, terms, run, seek(source, board, terms, run))
 }
