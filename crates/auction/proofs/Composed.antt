@@ -16,18 +16,19 @@ use Rattle.auction.specs.declared.sought.Sought.{Sought}
 use Rattle.auction.specs.declared.sought.Offer.{Offer}
 use Rattle.auction.specs.Markets.{Market}
 use Rattle.auction.specs.Bids.{ceiling, floor, Second-value}
-use Rattle.auction.specs.Depths.{depthOf, floorOf}
-use Rattle.auction.specs.Searches.{Terms-of, termsFloor, limitedTo, Shown-behind, Told-within, Seeks, Finds, priced, offered, Composes}
+use Rattle.auction.specs.Limits.{incrementLimit}
+use Rattle.auction.specs.Depths.{ceilingLimit, depthLimit}
+use Rattle.auction.specs.Searches.{Terms-of, termsFloor, limitedTo, Shown-behind, Told-within, Limit-changes-nothing, Seeks, Finds, priced, offered, Composes}
 use Rattle.auction.proofs.Holders.{none-some}
 use Rattle.auction.proofs.Floors.{under-ceiling}
 use Rattle.auction.proofs.Seeks.{second-low}
 use Rattle.auction.proofs.Deep.{terms-floor, depth-low, ceiling-low}
 
-pub limit-idle : (f : Face) → Shown-behind f → Told-within f → (i k : ℕ) → limitedTo f i k ≡ f .shown i k
+pub limit-idle : Limit-changes-nothing
 limit-idle f behind within i k = omega (arith, behind i k, within k)
 
 -- the price of a bid, where the second value is at most the scaled points and neither is far from 0
-priced-is : (u w : ℤ) (e : ℕ) → w ≤ℤ u → u ≤ℤ pos 257000000 → negℤ (pos 5000000000000000) ≤ℤ w → e ≤ 1000000000 → pos (priced u w e) ≡ ((u -ℤ w) +ℤ pos e)
+priced-is : (u w : ℤ) (e : ℕ) → w ≤ℤ u → u ≤ℤ pos ceilingLimit → negℤ (pos depthLimit) ≤ℤ w → e ≤ incrementLimit → pos (priced u w e) ≡ ((u -ℤ w) +ℤ pos e)
 priced-is u w e low high deep small = go (u -ℤ w) refl
   where
     go : (d : ℤ) → u -ℤ w ≡ d → pos (min (natAbs d + e) 18446744073709551615) ≡ d +ℤ pos e
