@@ -42,6 +42,7 @@ module _ (t : Table) (l : Lawful t) (m : Market) (q : ℕ → ℕ) (i : ℕ) (x 
     where
       same : termsFloor x ≡ floor t m
       same = terms-floor t m x of
+
       go : (b : Bool) → ltZ (s .net) (termsFloor x) ≡ b → Composes t m q i (cond b None (Some (record { seat = s .seat; price = priced (s .worth) (s .second) (x .increment) })))
       go true e = λ k r a. omega (arith, ints, found .best .most k r a, lt-true (s .net) (termsFloor x) e, found .net, same)
       go false e =

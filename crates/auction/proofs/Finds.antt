@@ -48,8 +48,10 @@ module _ (t : Table) (f : ℤ) (q : ℕ → ℕ) (i : ℕ) where
     where
       new : ℤ
       new = net (t .size) p (q k)
+
       old : ℤ
       old = net (t .size) (x .points) (q (s .seat))
+
       go : (b : Bool) → ltZ (s .net) new ≡ b → Found-below t f q i (suc k) (cond b (record { seat = k; worth = scaled (t .size) p; net = new; second = maxZ (s .second) (s .net) }) (record { seat = s .seat; worth = s .worth; net = s .net; second = maxZ (s .second) new }))
       go true e =
           let less : old <ℤ new = omega (arith, ints, lt-true (s .net) new e, x .net) in

@@ -33,8 +33,7 @@ loop-seat-again g c =
     let q : ℕ → ℕ = limitedTo (g .B·PriceBoard .face (c .args .board .now)) i in
     let k : ℕ = c .in-Some .seat in
     let e = c .in-Some .ensures tt in
-    let (p, a) = worth t i k (e .1) in
-    (
+    let (p, a) = worth t i k (e .1) in (
       omega (arith, below g c),
       known-more t f q i (c .args .size) (c .loop-seat .from) k p (c .loop-seat .found) (c .take-seat-found .result) (c .pre) (c .take-seat-found .ensures) (e .0) (e .2) a (c .loop-seat .inv .1),
     )
@@ -49,9 +48,9 @@ returns g c =
     let face = g .B·PriceBoard .face b in
     let found : Seeks t (c .args .floor) (limitedTo face i) i (c .loop-seat .found) =
     subst (λ (z : ℤ). Seeks t z (limitedTo face i) i (c .loop-seat .found)) (toZ-ofZ w64 (c .args .floor) (c .fits .floor)) (
-      known-end t f (limitedTo face i) i (g .S·PairSource·met .lawful s) (c .loop-seat .found) (
-        known-skip t f (limitedTo face i) i (c .loop-seat .from) (t .size) (c .loop-seat .found) (c .loop-seat .inv .0) (λ k a b. c .in-rest .ensures tt k a) (c .loop-seat .inv .1)
-      )
+    known-end t f (limitedTo face i) i (g .S·PairSource·met .lawful s) (c .loop-seat .found) (
+    known-skip t f (limitedTo face i) i (c .loop-seat .from) (t .size) (c .loop-seat .found) (c .loop-seat .inv .0) (λ k a b. c .in-rest .ensures tt k a) (c .loop-seat .inv .1)
+    )
     ) in
     record {
       limited = found;
