@@ -1,15 +1,15 @@
 -- The offer on what a search found is the run's bid by the rules.
 use Prim.Native.Nat.{ℕ, _+_, _≤_, min}
-use mathlib.Core.Path.{_≡_, refl, sym, ap, subst, fun-ext, _∙_}
+use mathlib.Core.Path.{_≡_, refl, ap, subst, fun-ext}
 use mathlib.Core.Bool.{Bool, true, false, cond}
 use native.Mathlib.Omega.{arith}
 use borrow.Author.Differences.{ints, lt-true, lt-false}
 use lib.IntN.{ℤ, pos, negsuc, natAbs, negℤ, _+ℤ_, _-ℤ_}
-use lib.Signed.{_≤ℤ_, _<ℤ_, ltZ}
+use lib.Signed.{_≤ℤ_, ltZ}
 use Rattle.std.specs.declared.option.Option.{Option}
 use Rattle.std.specs.declared.option.Option.the-variants.{Some, None}
-use Rattle.points.specs.Tables.{Table, Pays, Lawful}
-use Rattle.points.specs.Nets.{priceLimit, scaled, net}
+use Rattle.points.specs.Tables.{Table, Lawful}
+use Rattle.points.specs.Nets.{scaled, net}
 use Rattle.boards.specs.Faces.{Face}
 use Rattle.auction.specs.declared.terms.Terms.{Terms}
 use Rattle.auction.specs.declared.sought.Sought.{Sought}
@@ -18,7 +18,7 @@ use Rattle.auction.specs.Markets.{Market}
 use Rattle.auction.specs.Bids.{ceiling, floor, Second-value}
 use Rattle.auction.specs.Limits.{incrementLimit}
 use Rattle.auction.specs.Depths.{ceilingLimit, depthLimit}
-use Rattle.auction.specs.Searches.{Terms-of, termsFloor, limitedTo, Shown-behind, Told-within, Limit-changes-nothing, Seeks, Finds, priced, offered, Composes}
+use Rattle.auction.specs.Searches.{Terms-of, termsFloor, limitedTo, Shown-behind, Told-within, Limit-changes-nothing, Seeks, priced, offered, Composes}
 use Rattle.auction.proofs.Holders.{none-some}
 use Rattle.auction.proofs.Floors.{under-ceiling}
 use Rattle.auction.proofs.Seeks.{second-low}

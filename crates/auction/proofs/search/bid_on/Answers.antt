@@ -1,5 +1,4 @@
 use Prim.Native.Nat.{ℕ}
-use Rattle.points.specs.Tables.{Table}
 use Rattle.auction.specs.Searches.{limitedTo, Seeks-at, Bids-at}
 use Rattle.auction.proofs.Composed.{composed}
 use Rattle.auction.proofs.search.bid_on.Given.{Over}

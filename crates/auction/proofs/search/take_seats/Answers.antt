@@ -1,11 +1,11 @@
 use native.Mathlib.Omega.{arith}
-use Prim.Native.Nat.{ℕ, _≤_, _<_, _+_}
-use mathlib.Core.Path.{_≡_, subst}
+use Prim.Native.Nat.{ℕ, _<_}
+use mathlib.Core.Path.{subst}
 use lib.IntN.{ℤ}
 use mir.Syntax.{w64}
 use mir.Val.{toZ, ofZ}
 use Rattle.std.proofs.shelf.Signed.{toZ-ofZ}
-use Rattle.points.specs.Tables.{Table, Pays}
+use Rattle.points.specs.Tables.{Table}
 use Rattle.points.proofs.Rows.{allowed-below}
 use Rattle.points.proofs.Scales.{worth}
 use Rattle.auction.specs.Searches.{limitedTo, Seeks}
