@@ -79,7 +79,7 @@ abbrev pub Seeks : Table → ℤ → (ℕ → ℕ) → ℕ → Option Sought →
 Seeks t f q i None = (k : ℕ) → t .points i k ≡ None
 Seeks t f q i (Some s) = Finds t f q i s
 
--- that holds of a search by the terms, if they are of the table's size
+-- terms of the table's size: the search finds a run's best seat, with the floor that they give
 abbrev pub Seeks-at : Table → Terms → (ℕ → ℕ) → ℕ → Option Sought → Type 0
 Seeks-at t x q i o = x .size ≡ t .size → Seeks t (termsFloor x) q i o
 
@@ -97,6 +97,6 @@ abbrev pub Composes : Table → Market → (ℕ → ℕ) → ℕ → Option Offe
 Composes t m q i None = Hopeless t m q i
 Composes t m q i (Some o) = Best-bid t m q i (o .seat) (o .price)
 
--- that holds of the bid by the terms, for every market whose terms they are
+-- for every market whose terms these are, the offer is the run's bid by the rules
 abbrev pub Bids-at : Table → Terms → (ℕ → ℕ) → ℕ → Option Offer → Type 0
 Bids-at t x q i r = (m : Market) → Terms-of t m x → Composes t m q i r
