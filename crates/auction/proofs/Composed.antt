@@ -1,15 +1,14 @@
 -- The offer on what a search found is the run's bid by the rules.
 use Prim.Native.Nat.{ℕ, _+_, _≤_, min}
-use mathlib.Core.Path.{_≡_, refl, sym, ap, subst, fun-ext, _∙_}
+use mathlib.Core.Path.{_≡_, refl, ap, subst, fun-ext}
 use mathlib.Core.Bool.{Bool, true, false, cond}
 use native.Mathlib.Omega.{arith}
 use borrow.Author.Differences.{ints, lt-true, lt-false}
 use lib.IntN.{ℤ, pos, negsuc, natAbs, negℤ, _+ℤ_, _-ℤ_}
-use lib.Signed.{_≤ℤ_, _<ℤ_, ltZ}
+use lib.Signed.{_≤ℤ_, ltZ}
 use Rattle.std.specs.declared.option.Option.{Option}
 use Rattle.std.specs.declared.option.Option.the-variants.{Some, None}
-use Rattle.points.specs.Tables.{Table, Pays, Lawful}
-use Rattle.points.specs.Limits.{priceLimit}
+use Rattle.points.specs.Tables.{Table, Lawful}
 use Rattle.points.specs.Nets.{scaled, net}
 use Rattle.boards.specs.Faces.{Face}
 use Rattle.auction.specs.declared.terms.Terms.{Terms}
@@ -17,18 +16,19 @@ use Rattle.auction.specs.declared.sought.Sought.{Sought}
 use Rattle.auction.specs.declared.sought.Offer.{Offer}
 use Rattle.auction.specs.Markets.{Market}
 use Rattle.auction.specs.Bids.{ceiling, floor, Second-value}
-use Rattle.auction.specs.Depths.{depthOf, floorOf}
-use Rattle.auction.specs.Searches.{Terms-of, termsFloor, limitedTo, Shown-behind, Told-within, Seeks, Finds, priced, offered, Composes}
+use Rattle.auction.specs.Limits.{incrementLimit}
+use Rattle.auction.specs.Depths.{ceilingLimit, depthLimit}
+use Rattle.auction.specs.Searches.{Terms-of, termsFloor, limitedTo, Shown-behind, Told-within, Limit-changes-nothing, Seeks, priced, offered, Composes}
 use Rattle.auction.proofs.Holders.{none-some}
 use Rattle.auction.proofs.Floors.{under-ceiling}
 use Rattle.auction.proofs.Seeks.{second-low}
 use Rattle.auction.proofs.Deep.{terms-floor, depth-low, ceiling-low}
 
-pub limit-idle : (f : Face) → Shown-behind f → Told-within f → (i k : ℕ) → limitedTo f i k ≡ f .shown i k
+pub limit-idle : Limit-changes-nothing
 limit-idle f behind within i k = omega (arith, behind i k, within k)
 
 -- the price of a bid, where the second value is at most the scaled points and neither is far from 0
-priced-is : (u w : ℤ) (e : ℕ) → w ≤ℤ u → u ≤ℤ pos 257000000 → negℤ (pos 5000000000000000) ≤ℤ w → e ≤ 1000000000 → pos (priced u w e) ≡ ((u -ℤ w) +ℤ pos e)
+priced-is : (u w : ℤ) (e : ℕ) → w ≤ℤ u → u ≤ℤ pos ceilingLimit → negℤ (pos depthLimit) ≤ℤ w → e ≤ incrementLimit → pos (priced u w e) ≡ ((u -ℤ w) +ℤ pos e)
 priced-is u w e low high deep small = go (u -ℤ w) refl
   where
     go : (d : ℤ) → u -ℤ w ≡ d → pos (min (natAbs d + e) 18446744073709551615) ≡ d +ℤ pos e
@@ -61,11 +61,11 @@ module _ (t : Table) (l : Lawful t) (m : Market) (q : ℕ → ℕ) (i : ℕ) (x 
             price = omega (arith, ints, price, found .worth, of .increment);
           }
 
-  pub composed : (o : Option Sought) (r : Option Offer) → (x .size ≡ t .size → Seeks t (termsFloor x) q i o) → r ≡ offered (termsFloor x) (x .increment) o → Composes t m q i r
-  composed o r found e = rw e (offered-is o (found (of .size)))
+  pub composed : (o : Option Sought) (r : Option Offer) → r ≡ offered (termsFloor x) (x .increment) o → Seeks t (termsFloor x) q i o → Composes t m q i r
+  composed o r e found = rw e (offered-is o found)
 
--- where no told price is over the limit, the offer is the bid at the shown prices
-pub at-shown : (t : Table) (m : Market) (f : Face) (i : ℕ) (r : Option Offer) → Shown-behind f → Told-within f → Composes t m (limitedTo f i) i r → Composes t m (f .shown i) i r
-at-shown t m f i r behind within h =
+-- where no told price is over the limit, what is found is found at the shown prices
+pub at-shown : (t : Table) (z : ℤ) (f : Face) (i : ℕ) (o : Option Sought) → Shown-behind f → Told-within f → Seeks t z (limitedTo f i) i o → Seeks t z (f .shown i) i o
+at-shown t z f i o behind within h =
     let e : limitedTo f i ≡ f .shown i = fun-ext (limit-idle f behind within i) in
-    subst (λ (q : ℕ → ℕ). Composes t m q i r) e h
+    subst (λ (q : ℕ → ℕ). Seeks t z q i o) e h

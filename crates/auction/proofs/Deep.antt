@@ -1,5 +1,5 @@
 -- The floor by the numbers of a phase: it is the market's, and it lies within range.
-use Prim.Native.Nat.{ℕ, _+_, _-_, _*_, _≤_}
+use Prim.Native.Nat.{_+_, _-_, _*_, _≤_}
 use mathlib.Core.Path.{_≡_, refl}
 use native.Mathlib.Omega.{arith}
 use native.Mathlib.Nat.{mul-le-mul}
@@ -7,11 +7,11 @@ use Rattle.points.specs.Tables.{Table}
 use Rattle.auction.specs.declared.terms.Terms.{Terms}
 use Rattle.auction.specs.Markets.{Market}
 use Rattle.auction.specs.Bids.{ceiling, depth, floor}
-use Rattle.auction.specs.Depths.{depthOf, floorOf}
+use Rattle.auction.specs.Depths.{depthOf, Floors-agree, ceilingLimit, depthLimit}
 use Rattle.auction.specs.Searches.{termsFloor, Terms-of}
 
-pub floors-agree : (t : Table) (m : Market) → floorOf (t .size) (t .top) (m .increment) (m .high) ≡ floor t m
-unfolding depthOf depth ceiling
+pub floors-agree : Floors-agree
+unfolding depth ceiling
 floors-agree t m = refl
 
 -- the floor of a market's terms is the market's
@@ -19,8 +19,7 @@ pub terms-floor : (t : Table) (m : Market) (x : Terms) → Terms-of t m x → te
 terms-floor t m x of = let e = floors-agree t m in cc
 
 -- the depth of terms is far from the largest u64
-pub depth-low : (x : Terms) → depthOf (x .size) (x .top) (x .increment) (x .high) ≤ 5000000000000000
-unfolding depthOf
+pub depth-low : (x : Terms) → depthOf (x .size) (x .top) (x .increment) (x .high) ≤ depthLimit
 depth-low x =
     let a : 2 * x .size - 1 ≤ 511 = omega (arith, x .few) in
     let b : x .size + 1 ≤ 257 = omega (arith, x .few) in
@@ -29,7 +28,7 @@ depth-low x =
     omega (arith, mul-le-mul a d, mul-le-mul c (x .small), x .cheap)
 
 -- and so is the greatest that scaled points can be
-pub ceiling-low : (t : Table) (m : Market) (x : Terms) → Terms-of t m x → ceiling t ≤ 257000000
+pub ceiling-low : (t : Table) (m : Market) (x : Terms) → Terms-of t m x → ceiling t ≤ ceilingLimit
 unfolding ceiling
 ceiling-low t m x of =
     let b : t .size + 1 ≤ 257 = omega (arith, x .few, of .size) in

@@ -1,13 +1,13 @@
 -- The search by the program's own results: what is known once the seats below k are seen, and the bid at the end.
-use Prim.Native.Nat.{ℕ, suc, _+_, _<_, _≤_, _^_, min}
-use mathlib.Core.Path.{_≡_, refl, sym, ap, subst, _∙_}
+use Prim.Native.Nat.{ℕ, suc, _+_, _≤_}
+use mathlib.Core.Path.{_≡_, refl, subst}
 use mathlib.Core.Bool.{Bool, true, false, cond}
 use mathlib.Core.Logic.{_⊎_, inl, inr}
 use native.Mathlib.Omega.{arith}
 use native.Mathlib.Numerals.{add-one}
 use native.Mathlib.Decide.{decLt}
 use borrow.Author.Differences.{ints, lt-true, lt-false}
-use lib.IntN.{ℤ, pos, natAbs, _+ℤ_, _-ℤ_}
+use lib.IntN.{ℤ}
 use lib.Signed.{_≤ℤ_, _<ℤ_, ltZ}
 use Rattle.std.specs.Numbers.{maxZ}
 use Rattle.std.proofs.shelf.Signed.{by-ltZ, clamps}
@@ -16,7 +16,7 @@ use Rattle.std.specs.declared.option.Option.the-variants.{Some, None}
 use Rattle.points.specs.Tables.{Table, Pays, Lawful, Gap}
 use Rattle.points.specs.Nets.{scaled, net}
 use Rattle.auction.specs.declared.sought.Sought.{Sought}
-use Rattle.auction.specs.Searches.{weighed, taken, Seeks, Finds}
+use Rattle.auction.specs.Searches.{weighed, taken, Seeks}
 use Rattle.auction.proofs.Seeks.{Seen, seen-skip, seen-first, seen-better, seen-other, seen-best, seen-second}
 
 -- what is known of s by the seats below k

@@ -9,11 +9,24 @@ use Rattle.auction.specs.Markets.{Market}
 use Rattle.auction.specs.Bids.{floor}
 
 -- the depth at n seats, a top, an increment e and a high price h
-unfoldable pub depthOf : ℕ → ℕ → ℕ → ℕ → ℕ
+abbrev pub depthOf : ℕ → ℕ → ℕ → ℕ → ℕ
 depthOf n top e h = (2 * n - 1) * ((n + 1) * top) + (n - 1) * e + h
 
 abbrev pub floorOf : ℕ → ℕ → ℕ → ℕ → ℤ
 floorOf n top e h = negℤ (pos (depthOf n top e h))
+
+-- no ceiling, no part of a depth and no depth is over these where the numbers lie within the limits
+abbrev pub ceilingLimit : ℕ
+ceilingLimit = (sizeLimit + 1) * topLimit
+
+abbrev pub pointsPartLimit : ℕ
+pointsPartLimit = (2 * sizeLimit - 1) * ceilingLimit
+
+abbrev pub incrementsPartLimit : ℕ
+incrementsPartLimit = (sizeLimit - 1) * incrementLimit
+
+abbrev pub depthLimit : ℕ
+depthLimit = pointsPartLimit + incrementsPartLimit + priceLimit
 
 -- the numbers of a phase lie within the limits
 pub record Within-limits (n top e h : ℕ) : Type 0 where

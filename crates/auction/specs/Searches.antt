@@ -4,7 +4,7 @@ use mathlib.Core.Path.{_≡_}
 use mathlib.Core.Bool.{cond}
 use lib.IntN.{ℤ, natAbs, _-ℤ_}
 use lib.Signed.{ltZ}
-use Rattle.std.specs.Numbers.{minZ, maxZ}
+use Rattle.std.specs.Numbers.{maxZ}
 use Rattle.std.specs.declared.option.Option.{Option}
 use Rattle.std.specs.declared.option.Option.the-variants.{Some, None}
 use Rattle.points.specs.Tables.{Table}
@@ -80,6 +80,10 @@ abbrev pub Seeks : Table → ℤ → (ℕ → ℕ) → ℕ → Option Sought →
 Seeks t f q i None = (k : ℕ) → t .points i k ≡ None
 Seeks t f q i (Some s) = Finds t f q i s
 
+-- terms of the table's size: the search finds a run's best seat, with the floor that they give
+abbrev pub Seeks-at : Table → Terms → (ℕ → ℕ) → ℕ → Option Sought → Type 0
+Seeks-at t x q i o = x .size ≡ t .size → Seeks t (termsFloor x) q i o
+
 -- the price for which a seat of scaled points u leaves w, and the increment more; it stops at the largest u64
 abbrev pub priced : ℤ → ℤ → ℕ → ℕ
 priced u w e = min (natAbs (u -ℤ w) + e) 18446744073709551615
@@ -93,3 +97,7 @@ offered f e (Some s) = cond (ltZ (s .net) f) None (Some (record { seat = s .seat
 abbrev pub Composes : Table → Market → (ℕ → ℕ) → ℕ → Option Offer → Type 0
 Composes t m q i None = Hopeless t m q i
 Composes t m q i (Some o) = Best-bid t m q i (o .seat) (o .price)
+
+-- for every market whose terms these are, the offer is the run's bid by the rules
+abbrev pub Bids-at : Table → Terms → (ℕ → ℕ) → ℕ → Option Offer → Type 0
+Bids-at t x q i r = (m : Market) → Terms-of t m x → Composes t m q i r

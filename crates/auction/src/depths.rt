@@ -2,9 +2,9 @@
 ghost use mathlib.Core.Path.{_≡_};
 ghost use Prim.Native.Nat.{_+_, _-_, _*_, _≤_};
 ghost use lib.IntN.{pos, negℤ};
-ghost use Rattle.points.specs.Limits.{priceLimit, sizeLimit, topLimit};
+ghost use Rattle.points.specs.Limits.{sizeLimit, topLimit};
 ghost use Rattle.auction.specs.Limits.{incrementLimit};
-ghost use Rattle.auction.specs.Depths.{depthOf, floorOf};
+ghost use Rattle.auction.specs.Depths.{depthOf, floorOf, ceilingLimit, pointsPartLimit, incrementsPartLimit, depthLimit};
 ghost use Rattle.auction.specs.Searches.{Made};
 use crate::terms::INCREMENT_LIMIT;
 use crate::terms::SIZE_LIMIT;
@@ -41,7 +41,7 @@ impl Terms {
     // How far below 0 the floor lies.
     pub(crate) fn depth(&self) -> u64
         ensures value { λ r. ⌜ r ≡ depthOf (now (self .entry) .size) (now (self .entry) .top) (now (self .entry) .increment) (now (self .entry) .high) ⌝ }
-        ensures bound { λ r. ⌜ r ≤ 5000000000000000 ⌝ }
+        ensures bound { λ r. ⌜ r ≤ depthLimit ⌝ }
     {
         points_part(self.size, self.top) + increments_part(self.size, self.increment) + self.high
     }
@@ -49,7 +49,7 @@ impl Terms {
 
 // A number, negated.
 pub(crate) fn below_zero(depth: u64) -> i64
-    requires { ⌜ depth ≤ 5000000000000000 ⌝ }
+    requires { ⌜ depth ≤ depthLimit ⌝ }
     ensures { λ r. ⌜ r ≡ negℤ (pos depth) ⌝ }
 {
     -(depth as i64)
@@ -83,7 +83,7 @@ pub(crate) fn ceiling(size: u16, top: u32) -> u64
     requires few { ⌜ size ≤ sizeLimit ⌝ }
     requires low { ⌜ top ≤ topLimit ⌝ }
     ensures value { λ r. ⌜ r ≡ (size + 1) * top ⌝ }
-    ensures bound { λ r. ⌜ r ≤ 257000000 ⌝ }
+    ensures bound { λ r. ⌜ r ≤ ceilingLimit ⌝ }
 {
     points_scale(size) * u64::from(top)
 }
@@ -94,7 +94,7 @@ pub(crate) fn points_part(size: u16, top: u32) -> u64
     requires few { ⌜ size ≤ sizeLimit ⌝ }
     requires low { ⌜ top ≤ topLimit ⌝ }
     ensures value { λ r. ⌜ r ≡ (2 * size - 1) * ((size + 1) * top) ⌝ }
-    ensures bound { λ r. ⌜ r ≤ 131327000000 ⌝ }
+    ensures bound { λ r. ⌜ r ≤ pointsPartLimit ⌝ }
 {
     ceilings(size) * ceiling(size, top)
 }
@@ -105,7 +105,7 @@ pub(crate) fn increments_part(size: u16, increment: u64) -> u64
     requires few { ⌜ size ≤ sizeLimit ⌝ }
     requires small { ⌜ increment ≤ incrementLimit ⌝ }
     ensures value { λ r. ⌜ r ≡ (size - 1) * increment ⌝ }
-    ensures bound { λ r. ⌜ r ≤ 255000000000 ⌝ }
+    ensures bound { λ r. ⌜ r ≤ incrementsPartLimit ⌝ }
 {
     increments(size) * increment
 }

@@ -1,14 +1,15 @@
 use native.Mathlib.Omega.{arith}
-use Prim.Native.Nat.{ℕ, _≤_, _<_, _+_}
-use mathlib.Core.Path.{_≡_, subst}
+use Prim.Native.Nat.{ℕ, _<_}
+use mathlib.Core.Path.{subst}
 use lib.IntN.{ℤ}
 use mir.Syntax.{w64}
 use mir.Val.{toZ, ofZ}
 use Rattle.std.proofs.shelf.Signed.{toZ-ofZ}
-use Rattle.points.specs.Tables.{Table, Pays}
+use Rattle.points.specs.Tables.{Table}
 use Rattle.points.proofs.Rows.{allowed-below}
 use Rattle.points.proofs.Scales.{worth}
 use Rattle.auction.specs.Searches.{limitedTo, Seeks}
+use Rattle.auction.proofs.Composed.{at-shown}
 use Rattle.auction.proofs.Finds.{known-skip, known-more, known-end}
 use Rattle.auction.proofs.search.take_seats.Given.{Over}
 use Rattle.auction.proofs.search.take_seats.Needs as need
@@ -40,12 +41,18 @@ loop-seat-again g c =
 pub returns : need.returns
 returns g c =
     let s = c .args .source .now in
+    let b = c .args .board .now in
     let t : Table = g .S·PairSource .table s in
     let f : ℤ = toZ w64 (ofZ w64 (c .args .floor)) in
     let i : ℕ = c .args .run in
-    let q : ℕ → ℕ = limitedTo (g .B·PriceBoard .face (c .args .board .now)) i in
-    subst (λ (z : ℤ). Seeks t z q i (c .loop-seat .found)) (toZ-ofZ w64 (c .args .floor) (c .fits .floor)) (
-    known-end t f q i (g .S·PairSource·met .lawful s) (c .loop-seat .found) (
-    known-skip t f q i (c .loop-seat .from) (t .size) (c .loop-seat .found) (c .loop-seat .inv .0) (λ k a b. c .in-rest .ensures tt k a) (c .loop-seat .inv .1)
+    let face = g .B·PriceBoard .face b in
+    let found : Seeks t (c .args .floor) (limitedTo face i) i (c .loop-seat .found) =
+    subst (λ (z : ℤ). Seeks t z (limitedTo face i) i (c .loop-seat .found)) (toZ-ofZ w64 (c .args .floor) (c .fits .floor)) (
+    known-end t f (limitedTo face i) i (g .S·PairSource·met .lawful s) (c .loop-seat .found) (
+    known-skip t f (limitedTo face i) i (c .loop-seat .from) (t .size) (c .loop-seat .found) (c .loop-seat .inv .0) (λ k a b. c .in-rest .ensures tt k a) (c .loop-seat .inv .1)
     )
-    )
+    ) in
+    record {
+      limited = found;
+      shown = λ sound within. at-shown t (c .args .floor) face i (c .loop-seat .found) (g .B·PriceBoard·met .behind b sound) within found;
+    }
