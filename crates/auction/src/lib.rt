@@ -1,2 +1,5 @@
 // The auction: its laws over every run of events.
+pub mod books;
+pub mod ledger;
+pub mod opening;
 pub mod theorems;

@@ -1,0 +1,23 @@
+// A book that keeps its rules.
+ghost use mathlib.Core.Path.{_≡_};
+ghost use Prim.Native.Nat.{_+_, _*_, _≤_};
+ghost use Rattle.auction.specs.Limits.{phaseLimit, incrementLimit, allowanceLimit, sizeLimit};
+ghost use Rattle.auction.specs.Rules.{phaseRise, count, BidsFit, Waiting, Returned, UpTo};
+use crate::books::Book;
+
+#[derive(Clone, Copy)]
+pub struct Ledger {
+    pub book: Book,
+    ghost sized: { (1 ≤ book .conditions .size) × (book .conditions .size ≤ sizeLimit) },
+    ghost phased: { (1 ≤ book .phase) × (book .phase ≤ book .conditions .phases) × (book .conditions .phases ≤ phaseLimit) },
+    ghost small: { UpTo incrementLimit (book .conditions .increments) },
+    ghost priced: { UpTo (book .phase * phaseRise) (book .prices .prices) },
+    ghost high: { book .high + phaseRise ≤ book .phase * phaseRise },
+    ghost fit: { BidsFit (book .conditions .size) (book .phase * phaseRise) (book .bids) },
+    ghost waiting: { Waiting (book .conditions .size) (book .seats) (book .bids) },
+    ghost held: { Returned (book .conditions .size) (book .holders) (book .seats) },
+    ghost holding: { Returned (book .conditions .size) (book .seats) (book .holders) },
+    ghost filled: { book .seated ≡ count (book .seats) },
+    ghost balanced: { book .counts .composed ≡ book .counts .accepted + (book .counts .outbid + (book .counts .recalled + count (book .bids))) },
+    ghost within: { (book .counts .«phase_accepted» ≤ book .counts .accepted) × (book .counts .composed ≤ book .conditions .allowance) × (book .conditions .allowance ≤ allowanceLimit) },
+}
