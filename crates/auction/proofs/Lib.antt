@@ -1,3 +1,4 @@
+pub mod Entries
 pub mod Sound
 pub mod Holders
 pub mod Floors
@@ -8,3 +9,6 @@ pub mod Singles
 pub mod Plays
 pub mod Stands
 pub mod Figures
+pub mod Kept
+pub mod Displaces
+pub mod Ladders

@@ -2,7 +2,10 @@
 use Prim.Native.Nat.{ℕ, _+_, _*_, _<_, _≤_}
 use mathlib.Core.Path.{_≡_}
 use mathlib.Core.List.{List, [], _∷_}
+use mathlib.Core.Bool.{Bool, true, false}
+use lib.Dec.{eqb}
 use lib.ListN.{getD}
+use Rattle.std.specs.Options.{isSome}
 use Rattle.std.specs.declared.option.Option.{Option}
 use Rattle.std.specs.declared.option.Option.the-variants.{Some, None}
 use Rattle.auction.specs.declared.books.Bid.{Bid}
@@ -21,13 +24,22 @@ count (Some x ∷ xs) = count xs + 1
 abbrev pub BidsFit : ℕ → ℕ → List (Option Bid) → Type 0
 BidsFit n h bids = (i : ℕ) (x : Bid) → getD bids i None ≡ Some x → (x .seat < n) × (x .price ≤ h)
 
--- every bid out is that of a run below n that holds no seat
-abbrev pub Waiting : ℕ → List (Option ℕ) → List (Option Bid) → Type 0
-Waiting n seats bids = (i : ℕ) (x : Bid) → getD bids i None ≡ Some x → (i < n) × (getD seats i None ≡ None)
+-- whether an entry is there and is this number
+abbrev pub names : Option ℕ → ℕ → Bool
+names None a = false
+names (Some b) a = eqb b a
 
--- whatever one list has at a place, the other has the place there; both are below n
-abbrev pub Returned : ℕ → List (Option ℕ) → List (Option ℕ) → Type 0
-Returned n xs ys = (a b : ℕ) → getD xs a None ≡ Some b → (a < n) × (b < n) × (getD ys b None ≡ Some a)
+-- no run with a bid out holds a seat
+abbrev pub Waiting : List (Option ℕ) → List (Option Bid) → Type 0
+Waiting seats bids = (i : ℕ) (x : Bid) → getD bids i None ≡ Some x → isSome (getD seats i None) ≡ false
+
+-- a list has entries only at places below n, and they are below n
+abbrev pub Below : ℕ → List (Option ℕ) → Type 0
+Below n xs = (a b : ℕ) → getD xs a None ≡ Some b → (a < n) × (b < n)
+
+-- whatever one list has at a place, the other has the place there
+abbrev pub Returned : List (Option ℕ) → List (Option ℕ) → Type 0
+Returned xs ys = (a b : ℕ) → getD xs a None ≡ Some b → names (getD ys b None) a ≡ true
 
 -- no number of the list is above h
 abbrev pub UpTo : ℕ → List ℕ → Type 0

@@ -2,7 +2,7 @@
 ghost use mathlib.Core.Path.{_≡_};
 ghost use Prim.Native.Nat.{_+_, _*_, _≤_};
 ghost use Rattle.auction.specs.Limits.{phaseLimit, incrementLimit, allowanceLimit, sizeLimit};
-ghost use Rattle.auction.specs.Rules.{phaseRise, count, BidsFit, Waiting, Returned, UpTo};
+ghost use Rattle.auction.specs.Rules.{phaseRise, count, BidsFit, Waiting, Below, Returned, UpTo};
 use crate::books::Book;
 
 #[derive(Clone, Copy)]
@@ -14,9 +14,11 @@ pub struct Ledger {
     ghost priced: { UpTo (book .phase * phaseRise) (book .prices .prices) },
     ghost high: { book .high + phaseRise ≤ book .phase * phaseRise },
     ghost fit: { BidsFit (book .conditions .size) (book .phase * phaseRise) (book .bids) },
-    ghost waiting: { Waiting (book .conditions .size) (book .seats) (book .bids) },
-    ghost held: { Returned (book .conditions .size) (book .holders) (book .seats) },
-    ghost holding: { Returned (book .conditions .size) (book .seats) (book .holders) },
+    ghost waiting: { Waiting (book .seats) (book .bids) },
+    ghost runs: { Below (book .conditions .size) (book .holders) },
+    ghost places: { Below (book .conditions .size) (book .seats) },
+    ghost held: { Returned (book .holders) (book .seats) },
+    ghost holding: { Returned (book .seats) (book .holders) },
     ghost filled: { book .seated ≡ count (book .seats) },
     ghost balanced: { book .counts .composed ≡ book .counts .accepted + (book .counts .outbid + (book .counts .recalled + count (book .bids))) },
     ghost within: { (book .counts .«phase_accepted» ≤ book .counts .accepted) × (book .counts .composed ≤ book .conditions .allowance) × (book .conditions .allowance ≤ allowanceLimit) },

@@ -33,23 +33,29 @@ fn start_fault(cause: Cause) -> Fault
     Fault::in_phase(Layer::Exchange, cause, 0, None, None)
 }
 
+// An increment, or 0 past the last.
+fn increment_at(ladder: &[u64], at: usize) -> u64
+    ensures { λ r. ⌜ r ≡ getD (now (ladder .entry)) at 0 ⌝ }
+{
+    if at < ladder.len() { ladder[at] } else { 0 }
+}
+
 // Whether an increment falls to the next.
 fn falls(ladder: &[u64], at: usize) -> bool
-    requires { ⌜ at + 1 < length (now ladder) ⌝ }
+    requires { ⌜ at < length (now ladder) ⌝ }
     ensures { λ r. ⌜ r ≡ ltb (getD (now (ladder .entry)) (at + 1) 0) (getD (now (ladder .entry)) at 0) ⌝ }
 {
-    ladder[at + 1] < ladder[at]
+    increment_at(ladder, at + 1) < increment_at(ladder, at)
 }
 
 // Every increment falls to the next.
 fn check_falls(ladder: &[u64]) -> Result<(), Fault>
-    requires { ⌜ 1 ≤ length (now ladder) ⌝ }
     ensures { λ r.
         ⌜ Cases r
         (λ _. Passes (fallChecks (now (ladder .entry)) (length (now (ladder .entry)) - 1)))
         (λ f. Refuses (fallChecks (now (ladder .entry)) (length (now (ladder .entry)) - 1)) f) ⌝ }
 {
-    for at in 0..ladder.len() - 1 {
+    for at in 0..ladder.len().saturating_sub(1) {
         start_fault(Cause::Ladder).unless(falls(ladder, at))?;
     }
     Ok(())
@@ -60,10 +66,11 @@ fn check_ladder(ladder: &[u64]) -> Result<(), Fault>
     ensures { λ r. ⌜ Cases r (λ _. Passes (ladderChecks (now (ladder .entry)))) (λ f. Refuses (ladderChecks (now (ladder .entry))) f) ⌝ }
 {
     let phases = ladder.len();
+    let last = increment_at(ladder, phases.saturating_sub(1));
     start_fault(Cause::Ladder).unless(1 <= phases && phases <= PHASE_LIMIT)?;
-    start_fault(Cause::Ladder).unless(ladder[0] <= INCREMENT_LIMIT)?;
+    start_fault(Cause::Ladder).unless(increment_at(ladder, 0) <= INCREMENT_LIMIT)?;
     check_falls(ladder)?;
-    start_fault(Cause::Ladder).unless(ladder[phases - 1] == 1)
+    start_fault(Cause::Ladder).unless(last == 1)
 }
 
 // Size, ladder and allowance of an auction, in this order.
