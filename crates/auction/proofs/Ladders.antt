@@ -18,7 +18,7 @@ use Rattle.auction.specs.Runs.{FallsToOne, Ladder}
 pub take-copied : (xs row : List ℕ) → ((k : ℕ) → getD row k 0 ≡ getD xs k 0) → length xs ≤ length row → take (length xs) row ≡ xs
 take-copied [] row h l = refl
 take-copied (x ∷ xs) [] h l = absurd (not-suc-le-zero l)
-take-copied (x ∷ xs) (y ∷ row) h l = ap₂ {C = List ℕ} (λ a as. a ∷ as) (h 0) (take-copied xs row (λ k. h (suc k)) (le-of-suc-le-suc l))
+take-copied (x ∷ xs) (y ∷ row) h l = ap₂ {C = List ℕ} (λ a s. a ∷ s) (h 0) (take-copied xs row (λ k. h (suc k)) (le-of-suc-le-suc l))
 
 falls-from : (x : ℕ) (xs : List ℕ) → ((k : ℕ) → k < length xs → getD (x ∷ xs) (suc k) 0 < getD (x ∷ xs) k 0) → getD (x ∷ xs) (length xs) 0 ≡ 1 → FallsToOne x xs
 falls-from x [] h e = e
@@ -42,8 +42,8 @@ passed [] p = let w = and-parts (leb 1 0) (leb 0 phaseLimit) (p .0) in let z : _
 passed (x ∷ xs) p =
     let w = and-parts (leb 1 (length (x ∷ xs))) (leb (length (x ∷ xs)) phaseLimit) (p .0) in
     let few : length (x ∷ xs) ≤ phaseLimit = leb-true (length (x ∷ xs)) phaseLimit (w .1) in
-    let low : x ≤ incrementLimit = leb-true x incrementLimit (p .1) in
-    let falls : FallsToOne x xs = falls-from x xs (λ k l. ltb-true (getD (x ∷ xs) (k + 1) 0) (getD (x ∷ xs) k 0) (p .2 k (omega (arith, l)))) (eqb-true (getD (x ∷ xs) (length xs) 0) 1 (p .3)) in
+    let low : x ≤ incrementLimit = leb-true x incrementLimit (p .1 .0) in
+    let falls : FallsToOne x xs = falls-from x xs (λ k l. let q : k + 1 ≡ suc k = omega arith in subst (λ (n : ℕ). getD (x ∷ xs) n 0 < getD (x ∷ xs) k 0) q (ltb-true (getD (x ∷ xs) (k + 1) 0) (getD (x ∷ xs) k 0) (p .1 .1 .0 k (omega (arith, l))))) (let d : length (x ∷ xs) - 1 ≡ length xs = omega arith in eqb-true (getD (x ∷ xs) (length xs) 0) 1 (subst (λ (n : ℕ). eqb (getD (x ∷ xs) n 0) 1 ≡ true) d (p .1 .1 .1))) in
     record {
       some = omega arith;
       few = few;

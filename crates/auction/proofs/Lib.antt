@@ -12,3 +12,4 @@ pub mod Figures
 pub mod Kept
 pub mod Displaces
 pub mod Ladders
+pub mod Views

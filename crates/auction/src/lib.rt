@@ -2,4 +2,5 @@
 pub mod books;
 pub mod ledger;
 pub mod opening;
+pub mod operations;
 pub mod theorems;
