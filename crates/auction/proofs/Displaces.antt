@@ -132,6 +132,8 @@ module _ (b : Book) (i : ℕ) (x : Bid) (k : Kept b) (l : b .conditions .size �
 
   pub landed-kept : Kept (landed b i x)
   landed-kept = record {
+    whole = (length-set z i (Some (x .seat)) ∙ fz .long ∙ k .whole .0, length-set (b .holders) (x .seat) (Some i) ∙ k .whole .1, length-set (b .bids) i None ∙ k .whole .2);
+    long = (length-set (b .prices .prices) (x .seat) (x .price) ∙ k .long .0, k .long .1);
     sized = k .sized;
     phased = k .phased;
     small = k .small;

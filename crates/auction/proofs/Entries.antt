@@ -8,6 +8,7 @@ use native.Mathlib.Nat.{le-of-suc-le-suc, not-suc-le-zero}
 use lib.Dec.{eqb}
 use lib.ListN.{getD, set, length, replicate}
 use Rattle.std.specs.Options.{isSome}
+use Rattle.std.specs.Slices.{found}
 use Rattle.std.specs.declared.option.Option.{Option}
 use Rattle.std.specs.declared.option.Option.the-variants.{Some, None}
 use Rattle.std.proofs.shelf.Tests.{eqb-true}
@@ -89,3 +90,8 @@ count-full (Some x ∷ xs) zero h e i l = absurd (not-suc-le-zero l)
 count-full (None ∷ xs) (suc n) h e i l = let r : count xs ≤ n = count-most xs n (λ a x q. le-of-suc-le-suc (h (suc a) x q)) in absurd (omega (arith, r, e))
 count-full (Some x ∷ xs) (suc n) h e zero l = (x, refl)
 count-full (Some x ∷ xs) (suc n) h e (suc i) l = let f : count xs ≡ n = omega (arith, e) in count-full xs n (λ a y q. le-of-suc-le-suc (h (suc a) y q)) f i (le-of-suc-le-suc l)
+
+-- a rule on each entry that is there, at one entry
+pub found-at : {A : Type 0} (o : Option A) (P : A → Type 0) → ((x : A) → o ≡ Some x → P x) → found o P
+found-at None P h = tt
+found-at (Some x) P h = h x refl

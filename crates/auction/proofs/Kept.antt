@@ -6,7 +6,7 @@ use mathlib.Core.Logic.{_≢_}
 use mathlib.Core.List.{List}
 use native.Mathlib.Omega.{arith}
 use native.Mathlib.Decide.{ℕ-discrete}
-use lib.ListN.{getD, set, length, length-set, replicate}
+use lib.ListN.{getD, set, length, length-set, replicate, length-replicate}
 use lib.Seq.{getD-set-same, getD-set-other}
 use Rattle.std.specs.Options.{isSome}
 use Rattle.std.specs.declared.option.Option.{Option}
@@ -24,6 +24,8 @@ use Rattle.auction.proofs.Holders.{is-some}
 
 -- the rules of a ledger, of its book
 pub record Kept (b : Book) : Type 0 where
+  pub whole : (length (b .seats) ≡ sizeLimit) × (length (b .holders) ≡ sizeLimit) × (length (b .bids) ≡ sizeLimit)
+  pub long : (length (b .prices .prices) ≡ sizeLimit) × (length (b .conditions .increments) ≡ phaseLimit)
   pub sized : (1 ≤ b .conditions .size) × (b .conditions .size ≤ sizeLimit)
   pub phased : (1 ≤ b .phase) × (b .phase ≤ b .conditions .phases) × (b .conditions .phases ≤ phaseLimit)
   pub small : UpTo incrementLimit (b .conditions .increments)
@@ -42,7 +44,9 @@ pub record Kept (b : Book) : Type 0 where
 -- the same as the ledger has them
 abbrev pub Rows : Book → Type 0
 Rows b =
-    ((1 ≤ b .conditions .size) × (b .conditions .size ≤ sizeLimit))
+    ((length (b .seats) ≡ sizeLimit) × (length (b .holders) ≡ sizeLimit) × (length (b .bids) ≡ sizeLimit))
+    × (((length (b .prices .prices) ≡ sizeLimit) × (length (b .conditions .increments) ≡ phaseLimit))
+    × (((1 ≤ b .conditions .size) × (b .conditions .size ≤ sizeLimit))
     × (((1 ≤ b .phase) × (b .phase ≤ b .conditions .phases) × (b .conditions .phases ≤ phaseLimit))
     × (UpTo incrementLimit (b .conditions .increments)
     × (UpTo (b .phase * phaseRise) (b .prices .prices)
@@ -56,13 +60,15 @@ Rows b =
     × ((b .seated ≡ count (b .seats))
     × ((b .counts .composed ≡ b .counts .accepted + (b .counts .outbid + (b .counts .recalled + count (b .bids))))
     × (((b .counts .«phase_accepted» ≤ b .counts .accepted) × (b .counts .composed ≤ b .conditions .allowance) × (b .conditions .allowance ≤ allowanceLimit))
-    × Unit {0})))))))))))))
+    × Unit {0})))))))))))))))
 
 pub rows : (b : Book) → Kept b → Rows b
-rows b k = (k .sized, (k .phased, (k .small, (k .priced, (k .high, (k .fit, (k .waiting, (k .runs, (k .places, (k .held, (k .holding, (k .filled, (k .balanced, (k .within, tt))))))))))))))
+rows b k = (k .whole, (k .long, (k .sized, (k .phased, (k .small, (k .priced, (k .high, (k .fit, (k .waiting, (k .runs, (k .places, (k .held, (k .holding, (k .filled, (k .balanced, (k .within, tt))))))))))))))))
 
 pub kept : (l : Ledger) → Kept (l .book)
 kept l = record {
+  whole = l .whole;
+  long = l .long;
   sized = l .sized;
   phased = l .phased;
   small = l .small;
@@ -79,8 +85,10 @@ kept l = record {
   within = l .within;
 }
 
-pub blank-kept : (c : Conditions) → (1 ≤ c .size) × (c .size ≤ sizeLimit) → (1 ≤ c .phases) × (c .phases ≤ phaseLimit) → UpTo incrementLimit (c .increments) → c .allowance ≤ allowanceLimit → Kept (blank c)
-blank-kept c z p s a = record {
+pub blank-kept : (c : Conditions) → (1 ≤ c .size) × (c .size ≤ sizeLimit) → (1 ≤ c .phases) × (c .phases ≤ phaseLimit) → UpTo incrementLimit (c .increments) → c .allowance ≤ allowanceLimit → length (c .increments) ≡ phaseLimit → Kept (blank c)
+blank-kept c z p s a long = record {
+  whole = (length-replicate {A = Option ℕ} 256 None, length-replicate {A = Option ℕ} 256 None, length-replicate {A = Option Bid} 256 None);
+  long = (length-replicate {A = ℕ} 256 0, long);
   sized = z;
   phased = (omega arith, p .0, p .1);
   small = s;
@@ -97,8 +105,10 @@ blank-kept c z p s a = record {
   within = (omega arith, omega arith, a);
 }
 
-pub placed-kept : (b : Book) (i : ℕ) (x : Bid) → Kept b → i < length (b .bids) → seatAt b i ≡ None → bidAt b i ≡ None → (x .seat < b .conditions .size) × (x .price ≤ b .phase * phaseRise) → b .counts .composed < b .conditions .allowance → Kept (placed b i x)
+pub placed-kept : (b : Book) (i : ℕ) (x : Bid) → Kept b → i < b .conditions .size → seatAt b i ≡ None → bidAt b i ≡ None → (x .seat < b .conditions .size) × (x .price ≤ b .phase * phaseRise) → b .counts .composed < b .conditions .allowance → Kept (placed b i x)
 placed-kept b i x k l f e p u = record {
+  whole = (k .whole .0, k .whole .1, length-set (b .bids) i (Some x) ∙ k .whole .2);
+  long = k .long;
   sized = k .sized;
   phased = k .phased;
   small = k .small;
@@ -111,12 +121,14 @@ placed-kept b i x k l f e p u = record {
   held = k .held;
   holding = k .holding;
   filled = k .filled;
-  balanced = omega (arith, count-some (b .bids) i x l e, k .balanced);
+  balanced = omega (arith, count-some (b .bids) i x (omega (arith, l, k .sized .1, k .whole .2)) e, k .balanced);
   within = (k .within .0, omega (arith, u), k .within .2);
 }
 
 pub marked-kept : (b : Book) (i : ℕ) → Kept b → Kept (marked b i)
 marked-kept b i k = record {
+  whole = k .whole;
+  long = k .long;
   sized = k .sized;
   phased = k .phased;
   small = k .small;
@@ -149,6 +161,8 @@ pub record Ends (c d : Counts) : Type 0 where
 
 pub dropped-kept : (b : Book) (i : ℕ) (x : Bid) (d : Counts) → Kept b → bidAt b i ≡ Some x → Ends (b .counts) d → Kept (dropped b i d)
 dropped-kept b i x d k e f = record {
+  whole = (k .whole .0, k .whole .1, length-set (b .bids) i None ∙ k .whole .2);
+  long = k .long;
   sized = k .sized;
   phased = k .phased;
   small = k .small;
@@ -167,6 +181,8 @@ dropped-kept b i x d k e f = record {
 
 pub advanced-kept : (b : Book) (h : ℕ) → Kept b → b .phase < b .conditions .phases → h ≤ b .phase * phaseRise → Kept (advanced b h)
 advanced-kept b h k l p = record {
+  whole = (length-replicate {A = Option ℕ} 256 None, length-replicate {A = Option ℕ} 256 None, k .whole .2);
+  long = k .long;
   sized = k .sized;
   phased = (omega arith, omega (arith, l), k .phased .2);
   small = k .small;

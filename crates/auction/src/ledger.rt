@@ -1,6 +1,7 @@
 // A book that keeps its rules.
 ghost use mathlib.Core.Path.{_≡_};
 ghost use Prim.Native.Nat.{_+_, _*_, _≤_};
+ghost use lib.ListN.{length};
 ghost use Rattle.auction.specs.Limits.{phaseLimit, incrementLimit, allowanceLimit, sizeLimit};
 ghost use Rattle.auction.specs.Rules.{phaseRise, count, BidsFit, Waiting, Below, Returned, UpTo};
 use crate::books::Book;
@@ -8,6 +9,8 @@ use crate::books::Book;
 #[derive(Clone, Copy)]
 pub struct Ledger {
     pub book: Book,
+    ghost whole: { (length (book .seats) ≡ sizeLimit) × (length (book .holders) ≡ sizeLimit) × (length (book .bids) ≡ sizeLimit) },
+    ghost long: { (length (book .prices .prices) ≡ sizeLimit) × (length (book .conditions .increments) ≡ phaseLimit) },
     ghost sized: { (1 ≤ book .conditions .size) × (book .conditions .size ≤ sizeLimit) },
     ghost phased: { (1 ≤ book .phase) × (book .phase ≤ book .conditions .phases) × (book .conditions .phases ≤ phaseLimit) },
     ghost small: { UpTo incrementLimit (book .conditions .increments) },

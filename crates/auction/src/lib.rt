@@ -3,4 +3,5 @@ pub mod books;
 pub mod ledger;
 pub mod opening;
 pub mod operations;
+pub mod refusals;
 pub mod theorems;

@@ -100,6 +100,7 @@ fn begin(conditions: Conditions) -> Ledger
     requires phased { ⌜ (1 ≤ conditions .phases) × (conditions .phases ≤ 16) ⌝ }
     requires small { ⌜ UpTo incrementLimit (conditions .increments) ⌝ }
     requires allowance { ⌜ conditions .allowance ≤ allowanceLimit ⌝ }
+    requires long { ⌜ length (conditions .increments) ≡ 16 ⌝ }
     ensures { λ r. ⌜ r .book ≡ blank conditions ⌝ }
 {
     let book = Book::new(conditions);

@@ -27,6 +27,7 @@ begin-requires c κs =
       phased = (q .some, q .few);
       small = λ k. omega (arith, q .small k, c .padded-increments .ensures .same k);
       allowance = leb-true _ _ (allowed .1);
+      long = c .padded-increments .ensures .long;
     }
 
 pub returns : need.returns
