@@ -6,6 +6,7 @@ pub mod Rules
 pub mod Ledgers
 pub mod Opening
 pub mod Refusals
+pub mod Deliveries
 pub mod Changes
 pub mod Events
 pub mod Runs

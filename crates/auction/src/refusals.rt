@@ -7,9 +7,12 @@ ghost use Rattle.std.specs.declared.option.Option.the-variants.{Some, None};
 ghost use Rattle.fault.specs.Checks.{Passes, Refuses};
 ghost use Rattle.fault.specs.declared.causes.Cause.the-variants.{NoBidOut};
 ghost use Rattle.auction.specs.Books.{seatAt, bidAt};
+ghost use Rattle.std.specs.Vec.{made};
 ghost use Rattle.auction.specs.Rules.{count};
-ghost use Rattle.auction.specs.Refusals.{phaseFault, runFault, runChecks, seatChecks, markChecks, composeChecks, advanceChecks};
+ghost use Rattle.auction.specs.Ledgers.{Ready};
+ghost use Rattle.auction.specs.Refusals.{phaseFault, runFault, runChecks, seatChecks, markChecks, composeChecks, deliverChecks, recallChecks, advanceChecks};
 use crate::books::Bid;
+use crate::books::SIZE_LIMIT;
 use crate::ledger::Ledger;
 use crate::operations::wide;
 use fault::causes::Cause;
@@ -62,20 +65,14 @@ impl Ledger {
     pub(crate) fn is_seated(&self, run: usize) -> bool
         ensures { λ r. ⌜ r ≡ isSome (seatAt (now (self .entry) .book) run) ⌝ }
     {
-        match self.book.seats.get(run) {
-            Some(seat) => seat.is_some(),
-            None => false,
-        }
+        if run < SIZE_LIMIT { self.book.seat_at(run).is_some() } else { false }
     }
 
     // The bid of a run that is out.
     pub(crate) fn bid_of(&self, run: usize) -> Option<Bid>
         ensures { λ r. ⌜ r ≡ bidAt (now (self .entry) .book) run ⌝ }
     {
-        match self.book.bids.get(run) {
-            Some(bid) => *bid,
-            None => None,
-        }
+        if run < SIZE_LIMIT { self.book.bid_at(run) } else { None }
     }
 
     // Whether every run holds a seat.
@@ -115,5 +112,30 @@ impl Ledger {
         self.phase_fault(Cause::RunFree, None, None).unless(self.is_complete())?;
         self.phase_fault(Cause::LastPhase, None, None)
             .unless(self.book.phase < self.book.conditions.phases)
+    }
+
+    // The bid of a run that can be delivered.
+    pub(crate) fn check_deliver(&self, run: usize) -> Result<Bid, Fault>
+        ensures { λ r. ⌜ Cases r (λ x. Passes (deliverChecks (now (self .entry) .book) run) × (bidAt (now (self .entry) .book) run ≡ Some x)) (λ f. Refuses (deliverChecks (now (self .entry) .book) run) f) ⌝ }
+    {
+        self.check_run(run)?;
+        self.check_mark()?;
+        self.bid_out(run)
+    }
+
+    // The bid of a run that can be recalled.
+    pub(crate) fn check_recall(&self, run: usize) -> Result<Bid, Fault>
+        ensures { λ r. ⌜ Cases r (λ x. Passes (recallChecks (now (self .entry) .book) run) × (bidAt (now (self .entry) .book) run ≡ Some x)) (λ f. Refuses (recallChecks (now (self .entry) .book) run) f) ⌝ }
+    {
+        self.check_run(run)?;
+        self.bid_out(run)
+    }
+
+    // Whether a run may compose a bid now, or why not.
+    pub fn check_compose(&self, run: usize) -> Result<(), Fault>
+        ensures is { λ r. ⌜ Cases r (λ _. Passes (composeChecks (now (self .entry) .book) run)) (λ f. Refuses (composeChecks (now (self .entry) .book) run) f) ⌝ }
+        ensures ready { λ r. ⌜ made r (λ _. Ready (now (self .entry) .book) run) ⌝ }
+    {
+        self.test_compose(run)
     }
 }
