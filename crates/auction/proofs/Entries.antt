@@ -1,7 +1,7 @@
 -- Lists with entries that may be absent: reading after a write, counting, and lists that return each other.
 use Prim.Native.Nat.{ℕ, zero, suc, _+_, _<_, _≤_}
 use mathlib.Core.Path.{_≡_, refl, sym, ap, _∙_}
-use mathlib.Core.Bool.{Bool, true, false}
+use mathlib.Core.Bool.{Bool, true, false, not}
 use mathlib.Core.List.{List, [], _∷_}
 use native.Mathlib.Omega.{arith}
 use native.Mathlib.Nat.{le-of-suc-le-suc, not-suc-le-zero}
@@ -40,6 +40,10 @@ empty-some {A} n k x e = none-is-some x (sym (same {A = Option A} n None k) ∙ 
 pub is-none : {A : Type 0} (o : Option A) → isSome o ≡ false → o ≡ None
 is-none None e = refl
 is-none (Some x) e = let z : _≡_ {A = ℕ} 0 1 = cc in absurd (omega arith)
+
+pub not-some : {A : Type 0} (o : Option A) → not (isSome o) ≡ true → o ≡ None
+not-some None e = refl
+not-some (Some x) e = let z : _≡_ {A = ℕ} 0 1 = cc in absurd (omega arith)
 
 pub names-some : (o : Option ℕ) (a : ℕ) → names o a ≡ true → o ≡ Some a
 names-some None a e = let z : _≡_ {A = ℕ} 0 1 = cc in absurd (omega arith)

@@ -67,4 +67,71 @@ impl Ledger {
         let price = self.book.price_at(usize::from(bid.seat));
         is_enough(bid.price, price, self.book.increment())
     }
+
+    // A bid that can be delivered lands, or is outbid and dropped.
+    pub(crate) fn settle_bid(&mut self, run: usize, bid: Bid) -> Delivery
+        requires { ⌜ Deliverable (now self .book) run bid ⌝ }
+        ensures { λ r. ⌜ Delivers (now (self .entry) .book) (now (self .exit) .book) run r ⌝ }
+    {
+        if self.reaches(run, bid) {
+            return Delivery::Accepted(self.land(run, bid));
+        }
+        let seat = usize::from(bid.seat);
+        let price = self.book.price_at(seat);
+        self.drop_outbid(run, bid);
+        Delivery::Outbid(seat, price)
+    }
+
+    // Delivers a run's bid, which is used up.
+    pub fn deliver(&mut self, run: usize) -> Result<Delivery, Fault>
+        ensures { λ r.
+            ⌜ Cases r
+            (λ d. Passes (deliverChecks (now (self .entry) .book) run) × Delivers (now (self .entry) .book) (now (self .exit) .book) run d)
+            (λ f. Refuses (deliverChecks (now (self .entry) .book) run) f × (now (self .exit) .book ≡ now (self .entry) .book)) ⌝ }
+    {
+        let bid = self.check_deliver(run)?;
+        Ok(self.settle_bid(run, bid))
+    }
+
+    // A run's bid is dropped, since it is recalled.
+    pub(crate) fn drop_recalled(&mut self, run: usize, bid: Bid)
+        requires low { ⌜ run < now self .book .conditions .size ⌝ }
+        requires out { ⌜ bidAt (now self .book) run ≡ Some bid ⌝ }
+        ensures { λ _. ⌜ Recalls (now (self .entry) .book) (now (self .exit) .book) run ⌝ }
+    {
+        self.book.drop_recalled(run);
+    }
+
+    // Drops a run's bid.
+    pub fn recall(&mut self, run: usize) -> Result<(), Fault>
+        ensures { λ r.
+            ⌜ Cases r
+            (λ _. Passes (recallChecks (now (self .entry) .book) run) × Recalls (now (self .entry) .book) (now (self .exit) .book) run)
+            (λ f. Refuses (recallChecks (now (self .entry) .book) run) f × (now (self .exit) .book ≡ now (self .entry) .book)) ⌝ }
+    {
+        let bid = self.check_recall(run)?;
+        self.drop_recalled(run, bid);
+        Ok(())
+    }
+
+    // The next phase begins.
+    pub(crate) fn begin_phase(&mut self)
+        requires { ⌜ Passes (advanceChecks (now self .book)) ⌝ }
+        ensures { λ _. ⌜ Advances (now (self .entry) .book) (now (self .exit) .book) ⌝ }
+    {
+        let high = self.book.highest();
+        self.book.advance(high);
+    }
+
+    // Begins the next phase, when every run holds a seat.
+    pub fn advance(&mut self) -> Result<(), Fault>
+        ensures { λ r.
+            ⌜ Cases r
+            (λ _. Passes (advanceChecks (now (self .entry) .book)) × Advances (now (self .entry) .book) (now (self .exit) .book))
+            (λ f. Refuses (advanceChecks (now (self .entry) .book)) f × (now (self .exit) .book ≡ now (self .entry) .book)) ⌝ }
+    {
+        self.check_advance()?;
+        self.begin_phase();
+        Ok(())
+    }
 }

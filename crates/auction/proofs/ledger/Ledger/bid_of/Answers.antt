@@ -5,5 +5,5 @@ use Rattle.std.specs.declared.option.Option.the-variants.{None}
 use Rattle.std.proofs.shelf.Lists.{getD-past}
 use Rattle.auction.proofs.ledger.Ledger.bid_of.Needs as need
 
-pub returns-else-at-run : need.returns-else-at-run
-returns-else-at-run c = sym (getD-past (c .args .self .now .book .bids) (c .args .run) None (omega (arith, c .args .self .now .whole .2)))
+pub returns-else-run-lt-SIZE-LIMIT : need.returns-else-run-lt-SIZE-LIMIT
+returns-else-run-lt-SIZE-LIMIT c = sym (getD-past (c .args .self .now .book .bids) (c .args .run) None (omega (arith, c .args .self .now .whole .2)))

@@ -5,5 +5,5 @@ use Rattle.std.specs.declared.option.Option.the-variants.{None}
 use Rattle.std.proofs.shelf.Lists.{getD-past}
 use Rattle.auction.proofs.ledger.Ledger.is_seated.Needs as need
 
-pub returns-else-at-run : need.returns-else-at-run
-returns-else-at-run c = sym (ap isSome (getD-past (c .args .self .now .book .seats) (c .args .run) None (omega (arith, c .args .self .now .whole .0))))
+pub returns-else-run-lt-SIZE-LIMIT : need.returns-else-run-lt-SIZE-LIMIT
+returns-else-run-lt-SIZE-LIMIT c = sym (ap isSome (getD-past (c .args .self .now .book .seats) (c .args .run) None (omega (arith, c .args .self .now .whole .0))))
