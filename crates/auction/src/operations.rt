@@ -59,8 +59,7 @@ impl Ledger {
     pub(crate) fn land(&mut self, run: usize, bid: Bid) -> Landing
         requires bid { ⌜ Deliverable (now self .book) run bid ⌝ }
         requires enough { ⌜ priceAt (now self .book) (bid .seat) + incrementOf (now self .book) ≤ bid .price ⌝ }
-        ensures bid { λ r. ⌜ (r .seat ≡ bid .seat) × (r .price ≡ bid .price) ⌝ }
-        ensures event { λ r. ⌜ Lands (now (self .entry) .book) (now (self .exit) .book) run (bid .seat) (bid .price) (r .displaced) ⌝ }
+        ensures { λ r. ⌜ Lands (now (self .entry) .book) (now (self .exit) .book) run (r .seat) (r .price) (r .displaced) ⌝ }
     {
         let holder = narrow(run);
         let displaced = wide(self.book.land(holder, bid));

@@ -54,7 +54,6 @@ returns c =
     let lp : b .conditions .size ≤ length (b .prices .prices) = omega (arith, s .sized .1, s .long .0) in
     let e : c .land .last .self ≡ landed b i x = c .land .ensures .book ∙ ap (λ (r : ℕ). landed b r x) (c .narrow-holder .ensures) in
     let d : c .wide-displaced .result ≡ holderAt b (x .seat) = c .wide-displaced .ensures ∙ c .land .ensures .displaced in
-    record {
-      bid = (c .from .ensures, refl);
-      event = subst (λ (n : Book). Lands b n i (x .seat) (x .price) (c .wide-displaced .result)) (sym e) (subst (λ (o : Option ℕ). Lands b (landed b i x) i (x .seat) (x .price) o) (sym d) (lands-view b i x (kept s) ls lh lb lp (c .pre .bid) (c .pre .enough)));
-    }
+    subst (λ (j : ℕ). Lands b (c .land .last .self) i j (x .price) (c .wide-displaced .result)) (sym (c .from .ensures))
+    (subst (λ (n : Book). Lands b n i (x .seat) (x .price) (c .wide-displaced .result)) (sym e)
+    (subst (λ (o : Option ℕ). Lands b (landed b i x) i (x .seat) (x .price) o) (sym d) (lands-view b i x (kept s) ls lh lb lp (c .pre .bid) (c .pre .enough))))
