@@ -84,6 +84,7 @@ module _ (b : Book) (i : ℕ) (x : Bid) (k : Kept b) (l : b .conditions .size �
     where
       zr : getD z r None ≡ Some a
       zr = sym (seat-other r h) ∙ e
+
       go : Dec (seatAt b r ≡ Some (x .seat)) → (seatAt b r ≡ Some a) × (a ≢ x .seat)
       go (yes g) = none-is-some a (sym (fz .displaced r g) ∙ zr)
       go (no g) = let s : seatAt b r ≡ Some a = sym (fz .kept r g) ∙ zr in (s, λ q. g (s ∙ ap Some q))

@@ -42,7 +42,7 @@ opening first later = record {
   outbid = 0;
   recalled = 0;
   phase-accepted = 0;
-  allowance = 100
+  allowance = 100;
 }
 
 -- a market of one run and one seat, at increment e and this price, with the run's bid of so much out
@@ -62,7 +62,7 @@ waiting e price offer = record {
   outbid = 0;
   recalled = 0;
   phase-accepted = 0;
-  allowance = 100
+  allowance = 100;
 }
 
 -- over a lawful table, the events lead from an opened market to another

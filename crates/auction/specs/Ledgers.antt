@@ -2,7 +2,9 @@
 use Prim.Native.Nat.{ℕ, _+_, _*_, _<_, _≤_}
 use mathlib.Core.Path.{_≡_}
 use mathlib.Core.List.{List, [], _∷_}
-use lib.ListN.{drop, take, length}
+use mathlib.Core.Bool.{true, false}
+use lib.ListN.{drop}
+use Rattle.std.specs.Options.{isSome}
 use Rattle.std.specs.declared.option.Option.{Option}
 use Rattle.std.specs.declared.option.Option.the-variants.{Some, None}
 use Rattle.points.specs.Tables.{Table}
@@ -58,6 +60,15 @@ pub record Starts (n : ℕ) (xs : List ℕ) (a : ℕ) (l : Ledger) : Type 0 wher
   pub opened : Opened (marketOf l unshown)
   pub ladder : marketOf l unshown .increment ∷ marketOf l unshown .later ≡ xs
   pub allowance : marketOf l unshown .allowance ≡ a
+
+-- each of the first n runs holds a seat
+abbrev pub Seated-below : Book → ℕ → Type 0
+Seated-below b n = (r : ℕ) → r < n → isSome (seatAt b r) ≡ true
+
+-- the lowest run that holds no seat, or nothing where each run holds one
+abbrev pub LowestFree : Book → Option ℕ → Type 0
+LowestFree b (Some i) = (i < b .conditions .size) × (isSome (seatAt b i) ≡ false) × Seated-below b i
+LowestFree b None = Seated-below b (b .conditions .size)
 
 -- run i may bid: there is no mark, it holds no seat, it has no bid out, and the allowance is not spent
 pub record Ready (b : Book) (i : ℕ) : Type 0 where

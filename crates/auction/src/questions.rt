@@ -1,9 +1,10 @@
 // Questions to the ledger of an auction.
 ghost use mathlib.Core.Path.{_≡_};
-ghost use Prim.Native.Nat.{ℕ, _<_, _≤_};
+ghost use Prim.Native.Nat.{_≤_};
 ghost use Rattle.std.specs.Results.{Cases};
 ghost use Rattle.fault.specs.Checks.{Passes, Refuses};
-ghost use Rattle.auction.specs.Books.{priceAt, seatAt, holderAt, bidAt, incrementOf};
+ghost use Rattle.auction.specs.Books.{priceAt, seatAt, holderAt, incrementOf};
+ghost use Rattle.auction.specs.Ledgers.{LowestFree};
 ghost use Rattle.auction.specs.Refusals.{runChecks, seatChecks};
 use crate::books::Counts;
 use crate::ledger::Ledger;
@@ -76,5 +77,17 @@ impl Ledger {
         ensures { λ r. ⌜ r ≡ now (self .entry) .book .counts ⌝ }
     {
         self.book.counts
+    }
+
+    // The lowest run that holds no seat.
+    pub fn lowest_free(&self) -> Option<usize>
+        ensures { λ r. ⌜ LowestFree (now (self .entry) .book) r ⌝ }
+    {
+        for run in 0..self.size() {
+            if !self.is_seated(run) {
+                return Some(run);
+            }
+        }
+        None
     }
 }

@@ -21,12 +21,7 @@ use fault::layers::Layer;
 
 impl Ledger {
     // A fault in the current phase.
-    pub(crate) fn phase_fault(
-        &self,
-        cause: Cause,
-        run: Option<usize>,
-        seat: Option<usize>,
-    ) -> Fault
+    pub(crate) fn phase_fault(&self, cause: Cause, run: Option<usize>, seat: Option<usize>) -> Fault
         ensures { λ r. ⌜ r ≡ phaseFault (now (self .entry) .book) cause run seat ⌝ }
     {
         Fault::in_phase(Layer::Exchange, cause, self.book.phase, run, seat)
@@ -43,14 +38,16 @@ impl Ledger {
     pub(crate) fn check_run(&self, run: usize) -> Result<(), Fault>
         ensures { λ r. ⌜ Cases r (λ _. Passes (runChecks (now (self .entry) .book) run)) (λ f. Refuses (runChecks (now (self .entry) .book) run) f) ⌝ }
     {
-        self.run_fault(Cause::Number, run).unless(run < self.book.conditions.size)
+        self.run_fault(Cause::Number, run)
+            .unless(run < self.book.conditions.size)
     }
 
     // A seat below the size.
     pub(crate) fn check_seat(&self, seat: usize) -> Result<(), Fault>
         ensures { λ r. ⌜ Cases r (λ _. Passes (seatChecks (now (self .entry) .book) seat)) (λ f. Refuses (seatChecks (now (self .entry) .book) seat) f) ⌝ }
     {
-        self.phase_fault(Cause::Number, None, Some(seat)).unless(seat < self.book.conditions.size)
+        self.phase_fault(Cause::Number, None, Some(seat))
+            .unless(seat < self.book.conditions.size)
     }
 
     // No run is marked.
@@ -58,21 +55,30 @@ impl Ledger {
         ensures { λ r. ⌜ Cases r (λ _. Passes (markChecks (now (self .entry) .book))) (λ f. Refuses (markChecks (now (self .entry) .book)) f) ⌝ }
     {
         let mark = wide(self.book.mark);
-        self.phase_fault(Cause::NoFullPlan, mark, None).unless(mark.is_none())
+        self.phase_fault(Cause::NoFullPlan, mark, None)
+            .unless(mark.is_none())
     }
 
     // Whether a run holds a seat.
     pub(crate) fn is_seated(&self, run: usize) -> bool
         ensures { λ r. ⌜ r ≡ isSome (seatAt (now (self .entry) .book) run) ⌝ }
     {
-        if run < SIZE_LIMIT { self.book.seat_at(run).is_some() } else { false }
+        if run < SIZE_LIMIT {
+            self.book.seat_at(run).is_some()
+        } else {
+            false
+        }
     }
 
     // The bid of a run that is out.
     pub(crate) fn bid_of(&self, run: usize) -> Option<Bid>
         ensures { λ r. ⌜ r ≡ bidAt (now (self .entry) .book) run ⌝ }
     {
-        if run < SIZE_LIMIT { self.book.bid_at(run) } else { None }
+        if run < SIZE_LIMIT {
+            self.book.bid_at(run)
+        } else {
+            None
+        }
     }
 
     // Whether every run holds a seat.
@@ -88,8 +94,10 @@ impl Ledger {
     {
         self.check_run(run)?;
         self.check_mark()?;
-        self.run_fault(Cause::HoldsSeat, run).unless(!self.is_seated(run))?;
-        self.run_fault(Cause::BidOut, run).unless(self.bid_of(run).is_none())?;
+        self.run_fault(Cause::HoldsSeat, run)
+            .unless(!self.is_seated(run))?;
+        self.run_fault(Cause::BidOut, run)
+            .unless(self.bid_of(run).is_none())?;
         self.run_fault(Cause::AllowanceSpent, run)
             .unless(self.book.counts.composed < self.book.conditions.allowance)
     }
@@ -109,7 +117,8 @@ impl Ledger {
         ensures { λ r. ⌜ Cases r (λ _. Passes (advanceChecks (now (self .entry) .book))) (λ f. Refuses (advanceChecks (now (self .entry) .book)) f) ⌝ }
     {
         self.check_mark()?;
-        self.phase_fault(Cause::RunFree, None, None).unless(self.is_complete())?;
+        self.phase_fault(Cause::RunFree, None, None)
+            .unless(self.is_complete())?;
         self.phase_fault(Cause::LastPhase, None, None)
             .unless(self.book.phase < self.book.conditions.phases)
     }

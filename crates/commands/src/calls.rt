@@ -46,7 +46,12 @@ pub fn show_sheet(heap: Global, bytes: Vec<u8>) -> Result<SheetLine, Fault>
 }
 
 // Seats and prices checked over a sheet of either kind.
-pub fn check_plan(heap: Global, bytes: Vec<u8>, seats: &[u16], prices: &[u64]) -> Result<AcceptedLine, Fault>
+pub fn check_plan(
+    heap: Global,
+    bytes: Vec<u8>,
+    seats: &[u16],
+    prices: &[u64],
+) -> Result<AcceptedLine, Fault>
     ensures { λ r. ⌜ Judged (vec-items bytes) (now (seats .entry)) (now (prices .entry)) r ⌝ }
 {
     if names_sparse(&bytes) {
@@ -57,7 +62,11 @@ pub fn check_plan(heap: Global, bytes: Vec<u8>, seats: &[u16], prices: &[u64]) -
 }
 
 // A certificate file checked over a sheet of either kind.
-pub fn check_sheet(heap: Global, bytes: Vec<u8>, certificate: &[u8]) -> Result<AcceptedLine, Failure>
+pub fn check_sheet(
+    heap: Global,
+    bytes: Vec<u8>,
+    certificate: &[u8],
+) -> Result<AcceptedLine, Failure>
     ensures { λ r. ⌜ Checked (vec-items bytes) (now (certificate .entry)) r ⌝ }
 {
     match read_certificate(heap, certificate) {
@@ -73,7 +82,11 @@ pub fn check_sheet(heap: Global, bytes: Vec<u8>, certificate: &[u8]) -> Result<A
 pub(crate) fn show_source<S: RowSource>(source: &S, kind: Kind) -> SheetLine
     ensures { λ r. ⌜ r ≡ sheetLine kind (S·PairSource .table (now (source .entry))) ⌝ }
 {
-    SheetLine { kind, runs: source.size(), summary: summarize(source) }
+    SheetLine {
+        kind,
+        runs: source.size(),
+        summary: summarize(source),
+    }
 }
 
 pub(crate) fn show_dense(heap: Global, bytes: Vec<u8>) -> Result<SheetLine, Fault>
@@ -92,7 +105,12 @@ pub(crate) fn show_sparse(heap: Global, bytes: Vec<u8>) -> Result<SheetLine, Fau
     Ok(show_source(&sheet, Kind::Sparse))
 }
 
-pub(crate) fn check_dense(heap: Global, bytes: Vec<u8>, seats: &[u16], prices: &[u64]) -> Result<AcceptedLine, Fault>
+pub(crate) fn check_dense(
+    heap: Global,
+    bytes: Vec<u8>,
+    seats: &[u16],
+    prices: &[u64],
+) -> Result<AcceptedLine, Fault>
     ensures { λ r. ⌜ JudgedBy (denseChecks (vec-items bytes)) (denseTable (vec-items bytes)) (now (seats .entry)) (now (prices .entry)) r ⌝ }
 {
     let mut sheet = DenseSheet::new(heap);
@@ -101,7 +119,12 @@ pub(crate) fn check_dense(heap: Global, bytes: Vec<u8>, seats: &[u16], prices: &
     Ok(AcceptedLine { total })
 }
 
-pub(crate) fn check_sparse(heap: Global, bytes: Vec<u8>, seats: &[u16], prices: &[u64]) -> Result<AcceptedLine, Fault>
+pub(crate) fn check_sparse(
+    heap: Global,
+    bytes: Vec<u8>,
+    seats: &[u16],
+    prices: &[u64],
+) -> Result<AcceptedLine, Fault>
     ensures { λ r. ⌜ JudgedBy (sparseChecks (vec-items bytes)) (sparseTable (vec-items bytes)) (now (seats .entry)) (now (prices .entry)) r ⌝ }
 {
     let mut sheet = SparseSheet::new(heap);

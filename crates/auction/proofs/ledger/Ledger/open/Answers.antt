@@ -37,10 +37,12 @@ returns c =
     let allowed = and-parts (leb 1 (c .args .allowance)) (leb (c .args .allowance) allowanceLimit) (p .1 .1) in
     let k : Conditions = record { size = c .args .size; increments = c .padded-increments .result; phases = length xs; allowance = c .args .allowance } in
     let e : c .begin .result .book ≡ blank k = c .begin .ensures in
-    let v = opened-view k xs (passed xs (p .1 .0)) (c .padded-increments .ensures) refl (leb-true _ _ (allowed .0)) (leb-true _ _ (allowed .1)) in
-    (p, record {
-      size = ap (λ (b : Book). b .conditions .size) e;
-      opened = subst (λ (b : Book). Opened (viewOf b unshown)) (sym e) (v .0);
-      ladder = ap (λ (b : Book). incrementOf b ∷ drop (b .phase) (ladderOf b)) e ∙ v .1;
-      allowance = ap (λ (b : Book). b .conditions .allowance) e;
-    })
+    let v = opened-view k xs (passed xs (p .1 .0)) (c .padded-increments .ensures) refl (leb-true _ _ (allowed .0)) (leb-true _ _ (allowed .1)) in (
+      p,
+      record {
+        size = ap (λ (b : Book). b .conditions .size) e;
+        opened = subst (λ (b : Book). Opened (viewOf b unshown)) (sym e) (v .0);
+        ladder = ap (λ (b : Book). incrementOf b ∷ drop (b .phase) (ladderOf b)) e ∙ v .1;
+        allowance = ap (λ (b : Book). b .conditions .allowance) e;
+      },
+    )
