@@ -1,3 +1,4 @@
+pub mod Entries
 pub mod Sound
 pub mod Holders
 pub mod Floors
@@ -14,3 +15,7 @@ pub mod Figures
 pub mod Finds
 pub mod Deep
 pub mod Composed
+pub mod Kept
+pub mod Vacates
+pub mod Ladders
+pub mod Views
