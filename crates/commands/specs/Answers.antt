@@ -39,8 +39,14 @@ JudgedBy c t seats prices r = Cases r (λ l. Passes c × Accepted t seats prices
 abbrev pub Judged : List ℕ → List ℕ → List ℕ → Result AcceptedLine Fault → Type 0
 Judged bs seats prices r = JudgedBy (sheetChecks bs) (sheetTable bs) seats prices r
 
--- a certificate file over a sheet's bytes: not one of seats and prices, or judged
+-- a certificate over a sheet's bytes
+abbrev pub JudgedPlan : List ℕ → Certificate → Result AcceptedLine Failure → Type 0
+JudgedPlan bs c (Ok l) = Judged bs (vec-items (c .seats)) (vec-items (c .prices)) (Ok l)
+JudgedPlan bs c (Err (Refusal f)) = Judged bs (vec-items (c .seats)) (vec-items (c .prices)) (Err f)
+JudgedPlan bs c (Err (NoCertificate e)) = ⊥
+
+-- a certificate file over a sheet's bytes: not one of seats and prices, or judged by what it holds
 abbrev pub Checked : List ℕ → List ℕ → Result AcceptedLine Failure → Type 0
-Checked bs cs (Ok l) = (c : Certificate) × Holds cs c × Judged bs (vec-items (c .seats)) (vec-items (c .prices)) (Ok l)
-Checked bs cs (Err (Refusal f)) = (c : Certificate) × Holds cs c × Judged bs (vec-items (c .seats)) (vec-items (c .prices)) (Err f)
+Checked bs cs (Ok l) = (c : Certificate) × Holds cs c × JudgedPlan bs c (Ok l)
+Checked bs cs (Err (Refusal f)) = (c : Certificate) × Holds cs c × JudgedPlan bs c (Err (Refusal f))
 Checked bs cs (Err (NoCertificate e)) = Unread cs e

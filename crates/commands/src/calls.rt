@@ -5,7 +5,7 @@ ghost use Rattle.sheets.specs.Dense.{denseChecks, denseTable};
 ghost use Rattle.sheets.specs.Sparse.{sparseChecks, sparseTable};
 ghost use Rattle.commands.specs.declared.lines.Kind.the-variants.{Dense, Sparse};
 ghost use Rattle.commands.specs.Lines.{sheetLine};
-ghost use Rattle.commands.specs.Answers.{ShownAs, Shown, JudgedBy, Judged, Checked};
+ghost use Rattle.commands.specs.Answers.{ShownAs, Shown, JudgedBy, Judged, JudgedPlan, Checked};
 use crate::lines::AcceptedLine;
 use crate::lines::Kind;
 use crate::lines::SheetLine;
@@ -14,6 +14,7 @@ use fault::faults::Fault;
 use points::sources::PairSource;
 use points::sources::RowSource;
 use points::summarize::summarize;
+use sheets::certificate_files::Certificate;
 use sheets::certificate_files::Unreadable;
 use sheets::certificate_files::read_certificate;
 use sheets::dense::DensePairs;
@@ -71,10 +72,21 @@ pub fn check_sheet(
 {
     match read_certificate(heap, certificate) {
         Err(unreadable) => Err(Failure::NoCertificate(unreadable)),
-        Ok(plan) => match check_plan(heap, bytes, &plan.seats, &plan.prices) {
-            Ok(line) => Ok(line),
-            Err(fault) => Err(Failure::Refusal(fault)),
-        },
+        Ok(plan) => judge(heap, bytes, &plan),
+    }
+}
+
+// A certificate checked over a sheet of either kind.
+pub(crate) fn judge(
+    heap: Global,
+    bytes: Vec<u8>,
+    plan: &Certificate,
+) -> Result<AcceptedLine, Failure>
+    ensures { λ r. ⌜ JudgedPlan (vec-items bytes) (now (plan .entry)) r ⌝ }
+{
+    match check_plan(heap, bytes, &plan.seats, &plan.prices) {
+        Ok(line) => Ok(line),
+        Err(fault) => Err(Failure::Refusal(fault)),
     }
 }
 

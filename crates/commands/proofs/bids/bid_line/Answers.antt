@@ -42,7 +42,7 @@ returns-in-None-seek g c =
         limitedTo f (c .args .run),
         zero f 0 (c .new-board .ensures) (c .args .run),
         λ m h k r p.
-            let none = c .in-None-seek .ensures tt .finds (c .pre .size) k in
+            let none = c .in-None-seek .ensures tt .limited (c .pre .size) k in
             let q : _≡_ {A = ℕ} 0 1 = cc in absurd (omega arith),
       ),
     )
@@ -59,7 +59,7 @@ returns-in-Some-seek g c =
         free = zero f 0 (c .new-board .ensures) (c .args .run);
         bid = λ m h. c .in-Some .ensures tt .limited m (terms-of t x (c .pre) m h);
         sought = c .in-Some-seek .best;
-        finds = subst (λ (z : ℤ). Finds t z q (c .args .run) (c .in-Some-seek .best)) (floor-is t x (c .pre)) (c .in-Some-seek .ensures tt .finds (c .pre .size));
+        finds = subst (λ (z : ℤ). Finds t z q (c .args .run) (c .in-Some-seek .best)) (floor-is t x (c .pre)) (c .in-Some-seek .ensures tt .limited (c .pre .size));
         net = omega (arith, ints);
         second = omega (arith, ints);
       },
