@@ -37,7 +37,7 @@ pub(crate) fn wide(number: Option<u16>) -> Option<usize>
 
 impl Ledger {
     // A run's bid is out.
-    pub fn place(&mut self, run: usize, seat: usize, price: u64)
+    pub(crate) fn place(&mut self, run: usize, seat: usize, price: u64)
         requires ready { ⌜ Ready (now self .book) run ⌝ }
         requires fit { ⌜ (seat < sizeOf (now self)) × (price ≤ now self .book .phase * phaseRise) ⌝ }
         ensures { λ _. ⌜ Composes (now (self .entry) .book) (now (self .exit) .book) run seat price ⌝ }
@@ -47,7 +47,7 @@ impl Ledger {
     }
 
     // A run is found to have no part in a full plan.
-    pub fn mark(&mut self, run: usize)
+    pub(crate) fn mark(&mut self, run: usize)
         requires { ⌜ Ready (now self .book) run ⌝ }
         ensures { λ _. ⌜ Marks (now (self .entry) .book) (now (self .exit) .book) run ⌝ }
     {
