@@ -1,3 +1,4 @@
+#![tactic(auto)]
 // The worked figures of the auction, run through the search, the ledger and a board.
 use crate::calls::{Call, play};
 use boards::board::PriceBoard;

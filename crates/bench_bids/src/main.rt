@@ -1,3 +1,4 @@
+#![tactic(auto)]
 // The benchmark `bench_bids`: how long a bid takes, from the search to its landing, over a dense sheet and a common board.
 use anyhow::anyhow;
 use auction::limits::ALLOWANCE_LIMIT;

@@ -1,3 +1,4 @@
+#![tactic(auto)]
 // The benchmark `bench_checker`: how long one check of a certificate over a dense sheet takes.
 use anyhow::anyhow;
 use bench_tools::{refuse, words_of};

@@ -1,3 +1,4 @@
+#![tactic(auto)]
 // The benchmark `bench_settle`: how long a settle takes on a site board of 256 seats.
 use boards::board::PriceBoard;
 use boards::states::SiteBoard;

@@ -1,3 +1,4 @@
+#![tactic(auto)]
 // What the benchmark programs share: their words, and how they end on a refusal.
 use anyhow::anyhow;
 use fault::faults::Fault;

@@ -1,3 +1,4 @@
+#![tactic(auto)]
 // Price boards: what one means, the common board, the site board, and the delay layer over any board.
 pub mod board;
 pub mod clients;

@@ -1,3 +1,4 @@
+#![tactic(auto)]
 // Shows a lag on each kind of board, and the worked cases of the delay layer.
 use crate::watch::{Reading, tell_up_to, watch};
 use boards::board::PriceBoard;

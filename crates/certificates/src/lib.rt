@@ -1,3 +1,4 @@
+#![tactic(auto)]
 // The checker: whether a certificate proves its plan best.
 pub mod checker;
 mod contents;

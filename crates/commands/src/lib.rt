@@ -1,3 +1,4 @@
+#![tactic(auto)]
 // What the program's commands do, on bytes and any source: its lines and its answers.
 pub mod bids;
 pub mod calls;

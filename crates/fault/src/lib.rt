@@ -1,3 +1,4 @@
+#![tactic(auto)]
 // Refusals: the causes with their numbers, the layers, and the fault that passes up whole.
 pub mod causes;
 pub mod faults;

@@ -1,3 +1,4 @@
+#![tactic(auto)]
 // The book of a started auction: its events and their refusals.
 pub mod books;
 pub mod composing;

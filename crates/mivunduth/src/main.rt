@@ -1,3 +1,4 @@
+#![tactic(auto)]
 // The program `mivunduth`: arguments, files and printing over the proved commands.
 mod files;
 mod messages;

@@ -1,3 +1,4 @@
+#![tactic(auto)]
 // Sources of points: pair sources, row sources, and the arithmetic of nets.
 pub mod limits;
 pub mod nets;

@@ -1,3 +1,4 @@
+#![tactic(auto)]
 // Benefit sheets: tables of points as bytes.
 pub mod certificate_files;
 pub mod checks;

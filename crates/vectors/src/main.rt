@@ -1,3 +1,4 @@
+#![tactic(auto)]
 // Runs the vectors of sheets and certificates, and says how many come out as they are written down.
 mod texts;
 

@@ -9,7 +9,7 @@ returns c =
     let n : ℕ = c.args.count in
     let left : length (drop n ts) ≡ c.len.result - n = simp length-drop (omega (arith, c.len.ensures, c.args.held.now.ok.0)) in
     record {
-      held = c.truncate.ensures.items ∙ ap (λ (us : List Telling). take (c.len.result - n) us) c.rotate-left.ensures.items ∙ take_at (drop n ts) (take n ts) (c.len.result - n) left;
+      held = c.truncate.ensures.items ∙ ap (λ (us : List Telling). take (c.len.result - n) us) c.rotate_left.ensures.items ∙ take_at (drop n ts) (take n ts) (c.len.result - n) left;
       len = search rules;
       room = search rules;
     }

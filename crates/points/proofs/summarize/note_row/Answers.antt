@@ -31,5 +31,5 @@ pub returns : goal.returns
 returns g c =
     let t : Table = g.S.PairSource.table c.args.source.now in
     c.loop-seat.invariant.1
-    ∙ sym (row_gap t c.args.run c.args.before c.loop-seat.from t.size c.loop-seat.invariant.0 (λ k a b. c.in-default.ensures k a))
+    ∙ sym (row_gap t c.args.run c.args.before c.loop-seat.from t.size c.loop-seat.invariant.0 (λ k a b. c.in_default.ensures k a))
     ∙ ap (row_noted t c.args.run c.args.before) (sym c.requires)
