@@ -14,8 +14,8 @@ below g c =
     let s = c.args.source.now in
     allowed_below (g.S.PairSource.table s) (g.met.S.PairSource.lawful s) c.args.run c.in-Some.seat c.in-Some.ensures.1
 
-pub overflow-add-from : goal.overflow-add-from
-overflow-add-from g c = omega (arith, below g c, c.requires)
+pub overflow_add-from : goal.overflow_add-from
+overflow_add-from g c = omega (arith, below g c, c.requires)
 
 pub loop-seat-smaller : goal.loop-seat-smaller
 loop-seat-smaller g c = omega (arith, below g c, c.in-Some.ensures.0)
@@ -44,7 +44,7 @@ returns g c =
     let found : Seeks t c.args.floor (limited_to face i) i c.loop-seat.found =
     subst (λ (z : ℤ). Seeks t z (limited_to face i) i c.loop-seat.found) (to_z-of_z w64 c.args.floor c.ranges.floor) (
     known_end t f (limited_to face i) i (g.met.S.PairSource.lawful s) c.loop-seat.found (
-    known_skip t f (limited_to face i) i c.loop-seat.from t.size c.loop-seat.found c.loop-seat.invariant.0 (λ k a b. c.in-default.ensures k a) c.loop-seat.invariant.1
+    known_skip t f (limited_to face i) i c.loop-seat.from t.size c.loop-seat.found c.loop-seat.invariant.0 (λ k a b. c.in_default.ensures k a) c.loop-seat.invariant.1
     )
     ) in
     record {

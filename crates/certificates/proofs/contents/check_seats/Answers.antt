@@ -22,9 +22,9 @@ check-seat-requires g c = record {
   held = omega (arith, ints, c.requires.held);
 }
 
-pub returns-in-err-check-seat : goal.returns-in-err-check-seat
-returns-in-err-check-seat g c =
-    let p = err_from_is_err_and c.from-residual.result c.from-residual.ensures.1 in
+pub returns-in_err-check-seat : goal.returns-in_err-check-seat
+returns-in_err-check-seat g c =
+    let p = err_from_is_err_and c.from_residual.result c.from_residual.ensures.1 in
     let s = c.args.source.now in
     let t : Table = g.S.PairSource.table s in
     let seat : ℕ = c.in-Some.seat in
@@ -32,10 +32,10 @@ returns-in-err-check-seat g c =
     let low : seat < t.size = allowed_below t (g.met.S.PairSource.lawful s) c.args.run seat c.in-Some.ensures.1 in
     let before : Passes (seat_checks t c.args.prices.now c.args.run (to_z w64 (of_z w64 c.args.held)) seat) =
     passed_gap t c.args.prices.now c.args.run (to_z w64 (of_z w64 c.args.held)) c.loop-seat.from seat c.in-Some.ensures.2 c.loop-seat.invariant.1 in
-    rw (p.1, p.2, ← held) (seat, low, before, c.in-err-check-seat.ensures)
+    rw (p.1, p.2, ← held) (seat, low, before, c.in_err-check-seat.ensures)
 
-pub overflow-add-from : goal.overflow-add-from
-overflow-add-from g c = omega (arith, allowed_below (g.S.PairSource.table c.args.source.now) (g.met.S.PairSource.lawful c.args.source.now) c.args.run c.in-Some.seat c.in-Some.ensures.1, c.requires.size)
+pub overflow_add-from : goal.overflow_add-from
+overflow_add-from g c = omega (arith, allowed_below (g.S.PairSource.table c.args.source.now) (g.met.S.PairSource.lawful c.args.source.now) c.args.run c.in-Some.seat c.in-Some.ensures.1, c.requires.size)
 
 pub loop-seat-smaller : goal.loop-seat-smaller
 loop-seat-smaller g c = omega (arith, allowed_below (g.S.PairSource.table c.args.source.now) (g.met.S.PairSource.lawful c.args.source.now) c.args.run c.in-Some.seat c.in-Some.ensures.1, c.in-Some.ensures.0)
@@ -45,4 +45,4 @@ loop-seat-preserved g c =
     let s = c.args.source.now in
     let t : Table = g.S.PairSource.table s in
     let low : c.in-Some.seat < t.size = allowed_below t (g.met.S.PairSource.lawful s) c.args.run c.in-Some.seat c.in-Some.ensures.1 in
-    (omega arith, passed_more t c.args.prices.now c.args.run (to_z w64 (of_z w64 c.args.held)) c.loop-seat.from c.in-Some.seat c.in-Some.ensures.2 c.loop-seat.invariant.1 c.in-ok-check-seat.ensures)
+    (omega arith, passed_more t c.args.prices.now c.args.run (to_z w64 (of_z w64 c.args.held)) c.loop-seat.from c.in-Some.seat c.in-Some.ensures.2 c.loop-seat.invariant.1 c.in_ok-check-seat.ensures)

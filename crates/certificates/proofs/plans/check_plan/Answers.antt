@@ -14,10 +14,10 @@ use Rattle.certificates.proofs.plans.check_plan.Goals as goal
 pub loop-run-init : goal.loop-run-init
 loop-run-init g c = ((λ k l. absurd (omega arith)), marked_none c.args.seats.now 256, refl, refl)
 
-pub returns-in-err-points : goal.returns-in-err-points
-returns-in-err-points g c =
-    let p = err_from_is_err_and c.from-residual.result c.from-residual.ensures.1 in
-    rw (p.1, p.2) (c.loop-run.run, omega arith, c.loop-run.invariant.0, c.in-err-points.ensures)
+pub returns-in_err-points : goal.returns-in_err-points
+returns-in_err-points g c =
+    let p = err_from_is_err_and c.from_residual.result c.from_residual.ensures.1 in
+    rw (p.1, p.2) (c.loop-run.run, omega arith, c.loop-run.invariant.0, c.in_err-points.ensures)
 
 pub add-points-sum-requires : goal.add-points-sum-requires
 add-points-sum-requires g c =
@@ -33,11 +33,11 @@ loop-run-preserved g c =
     let t = g.S.PairSource.table c.args.source.now in
     let seats = c.args.seats.now in
     let run = c.loop-run.run in
-    let passed = c.in-ok-points.ensures in
+    let passed = c.in_ok-points.ensures in
     let seat : c.from.result ≡ seat_in seats run = c.from.ensures in
     let marks : c.mark.new.marks ≡ set c.loop-run.marks (seat_in seats run) true = c.mark.ensures ∙ ap (λ (k : ℕ). set c.loop-run.marks k true) seat in
     let below : seat_in seats run < length c.loop-run.marks = omega (arith, ltb-true _ _ passed.0.0, c.requires.size, c.loop-run.invariant.3) in
-    let more = total_more t (seat_in seats) run c.in-ok-points.points passed.1 in (
+    let more = total_more t (seat_in seats) run c.in_ok-points.points passed.1 in (
       below_more (λ i. Passes (run_checks t seats i)) run c.loop-run.invariant.0 passed.0,
       subst (Marked seats (run + 1)) (sym marks) (marked_more seats run c.loop-run.marks c.loop-run.invariant.1 below),
       omega (arith, ints, more, c.add-points-sum.ensures, c.loop-run.invariant.2),

@@ -7,8 +7,8 @@ use Rattle.points.proofs.nets.net_within.Goals as goal
 is : (c : goal.After-scaled_points) → c.scaled_points.result ≡ scaled c.args.size c.args.points
 is c = c.scaled_points.ensures ∙ ap (scaled c.args.size) (omega (arith, ints))
 
-pub overflow-sub-result : goal.overflow-sub-result
-overflow-sub-result c = omega (arith, ints, is c, scaled_fits c.args.size c.args.points (omega arith) c.ranges.points)
+pub overflow_sub-result : goal.overflow_sub-result
+overflow_sub-result c = omega (arith, ints, is c, scaled_fits c.args.size c.args.points (omega arith) c.ranges.points)
 
 pub returns : goal.returns
 returns c = omega (arith, ints, is c, scaled_fits c.args.size c.args.points (omega arith) c.ranges.points)

@@ -10,9 +10,9 @@ by c = omega (arith, ints)
 of : (c : goal.After-from) → to_z w64 (of_z w64 c.from.result) ≡ c.args.points
 of c = omega (arith, ints)
 
-pub overflow-mul-result : goal.overflow-mul-result
+pub overflow_mul-result : goal.overflow_mul-result
 unfolding scaled
-overflow-mul-result c = rw (by c, of c) (omega (arith, ints, scaled_fits c.args.size c.args.points (omega arith) c.ranges.points))
+overflow_mul-result c = rw (by c, of c) (omega (arith, ints, scaled_fits c.args.size c.args.points (omega arith) c.ranges.points))
 
 pub returns : goal.returns
 unfolding scaled

@@ -11,8 +11,8 @@ below g c =
     let s = c.args.source.now in
     allowed_below (g.S.PairSource.table s) (g.met.S.PairSource.lawful s) c.args.run c.in-Some.seat c.in-Some.ensures.1
 
-pub overflow-add-from : goal.overflow-add-from
-overflow-add-from g c = omega (arith, below g c, c.requires)
+pub overflow_add-from : goal.overflow_add-from
+overflow_add-from g c = omega (arith, below g c, c.requires)
 
 pub loop-seat-smaller : goal.loop-seat-smaller
 loop-seat-smaller g c = omega (arith, below g c, c.in-Some.ensures.0)

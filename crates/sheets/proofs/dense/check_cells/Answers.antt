@@ -14,5 +14,5 @@ loop-run-preserved c =
     let row : c.row-at.result ≡ row_at (size_in bs) c.loop-run.run = c.row-at.ensures ∙ ap (λ (n : ℕ). row_at n c.loop-run.run) c.requires.size.0 in
     let here : Passes (word_checks true bs (row_at (size_in bs) c.loop-run.run) (size_in bs)) =
     subst (λ (a : ℕ). Passes (word_checks true bs a (size_in bs))) row
-    (subst (λ (n : ℕ). Passes (word_checks true bs c.row-at.result n)) c.requires.size.0 c.in-ok-check-words.ensures) in
+    (subst (λ (n : ℕ). Passes (word_checks true bs c.row-at.result n)) c.requires.size.0 c.in_ok-check-words.ensures) in
     below_more (λ i. Passes (word_checks true bs (row_at (size_in bs) i) (size_in bs))) c.loop-run.run c.loop-run.invariant here

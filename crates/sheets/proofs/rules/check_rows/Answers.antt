@@ -7,5 +7,5 @@ pub loop-run-preserved : goal.loop-run-preserved
 loop-run-preserved c =
     let bs = c.args.bytes.now in
     let i = c.loop-run.run in
-    let here : Passes (row_checks bs i (end_before bs i)) = subst (λ (e : ℕ). Passes (row_checks bs i e)) c.loop-run.invariant.1 c.in-ok-end.ensures.0 in
-    (below_more (λ k. Passes (row_checks bs k (end_before bs k))) i c.loop-run.invariant.0 here, rw add-one c.in-ok-end.ensures.1)
+    let here : Passes (row_checks bs i (end_before bs i)) = subst (λ (e : ℕ). Passes (row_checks bs i e)) c.loop-run.invariant.1 c.in_ok-end.ensures.0 in
+    (below_more (λ k. Passes (row_checks bs k (end_before bs k))) i c.loop-run.invariant.0 here, rw add-one c.in_ok-end.ensures.1)

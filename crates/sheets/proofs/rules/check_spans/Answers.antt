@@ -10,5 +10,5 @@ loop-run-init c = (λ k h. absurd (omega arith), covered_none c.args.bytes.now, 
 pub loop-run-preserved : goal.loop-run-preserved
 loop-run-preserved c =
     let bs = c.args.bytes.now in
-    let got = c.in-ok-covered.ensures in
+    let got = c.in_ok-covered.ensures in
     (below_more (λ i. Passes (row_spans bs i)) c.loop-run.run c.loop-run.invariant.0 got.0, rw add-one got.1, rw add-one got.2)

@@ -8,33 +8,33 @@ use Rattle.sheets.specs.Finds.{passed_none, gap_none, over_some}
 use Rattle.sheets.specs.Ranges.{point_room}
 use Rattle.sheets.proofs.sparse.points_in.Goals as goal
 
-pub returns-in-err-span : goal.returns-in-err-span
-returns-in-err-span c =
+pub returns-in_err-span : goal.returns-in_err-span
+returns-in_err-span c =
     let bs = c.args.bytes.now in
     let run : c.args.run < size_in bs = omega arith in
-    rw c.from-residual.ensures (sym (passed_none bs c.requires.passes.1.1.0 c.args.run run c.args.seat c.args.seat (omega arith) c.in-err-span.ensures))
+    rw c.from_residual.ensures (sym (passed_none bs c.requires.passes.1.1.0 c.args.run run c.args.seat c.args.seat (omega arith) c.in_err-span.ensures))
 
 pub point-of-requires : goal.point-of-requires
 point-of-requires c =
     let bs = c.args.bytes.now in
     let run : c.args.run < size_in bs = omega arith in
-    let f = c.in-ok-span.ensures.1 in
+    let f = c.in_ok-span.ensures.1 in
     let frame = frame_parts bs c.requires.passes.0 in
     record {
       size = (c.requires.size.0, omega (arith, frame), frame.2);
-      room = λ h. let from : span_from bs c.in-ok-span.ensures.0 ≤ c.args.seat = omega (arith, f.from) in
-          omega (arith, f.from, f.first, point_room bs c.requires.passes c.args.run c.in-ok-span.ensures.0 c.args.seat run f.low f.high from f.over);
+      room = λ h. let from : span_from bs c.in_ok-span.ensures.0 ≤ c.args.seat = omega (arith, f.from) in
+          omega (arith, f.from, f.first, point_room bs c.requires.passes c.args.run c.in_ok-span.ensures.0 c.args.seat run f.low f.high from f.over);
     }
 
 pub returns : goal.returns
 returns c =
     let bs = c.args.bytes.now in
     let k = c.args.seat in
-    let s : Span = c.in-ok-span.span in
+    let s : Span = c.in_ok-span.span in
     let run : c.args.run < size_in bs = omega arith in
     let spans = c.requires.passes.1.1.0 in
-    let j : ℕ = c.in-ok-span.ensures.0 in
-    let f = c.in-ok-span.ensures.1 in
+    let j : ℕ = c.in_ok-span.ensures.0 in
+    let f = c.in_ok-span.ensures.1 in
     let at : s.first + (k - s.from) ≡ span_first bs j + (k - span_from bs j) = omega (arith, f.from, f.first) in
     elim (cases_lt k s.from) [
       | inl h ↦ (

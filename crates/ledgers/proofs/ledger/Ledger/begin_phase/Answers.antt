@@ -10,8 +10,8 @@ use Rattle.ledgers.proofs.Kept.{Rows, rows, kept, advanced_kept}
 use Rattle.ledgers.proofs.Views.{advances_view}
 use Rattle.ledgers.proofs.ledger.Ledger.begin_phase.Goals as goal
 
-pub invariant-of-self : goal.invariant-of-self
-invariant-of-self c =
+pub invariant_of-self : goal.invariant_of-self
+invariant_of-self c =
     let s = c.args.self.now in
     let b : Book = s.book in
     let h : ℕ = c.highest-high.result in

@@ -7,8 +7,8 @@ use Rattle.ledgers.proofs.Kept.{Rows, rows, kept, dropped_kept}
 use Rattle.ledgers.proofs.Views.{outbids_view}
 use Rattle.ledgers.proofs.ledger.Ledger.drop_outbid.Goals as goal
 
-pub invariant-of-self : goal.invariant-of-self
-invariant-of-self c =
+pub invariant_of-self : goal.invariant_of-self
+invariant_of-self c =
     let s = c.args.self.now in
     let b : Book = s.book in
     let i : ℕ = c.args.run in

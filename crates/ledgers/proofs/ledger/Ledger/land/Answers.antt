@@ -26,8 +26,8 @@ land-requires c =
       phase = omega (arith, s.balanced, s.within.0, s.within.1, s.within.2);
     }
 
-pub invariant-of-self : goal.invariant-of-self
-invariant-of-self c =
+pub invariant_of-self : goal.invariant_of-self
+invariant_of-self c =
     let s = c.args.self.now in
     let b : Book = s.book in
     let x : Bid = c.args.bid in

@@ -8,8 +8,8 @@ use Rattle.ledgers.proofs.Kept.{Rows, rows, kept, placed_kept}
 use Rattle.ledgers.proofs.Views.{composes_view}
 use Rattle.ledgers.proofs.ledger.Ledger.place.Goals as goal
 
-pub invariant-of-self : goal.invariant-of-self
-invariant-of-self c =
+pub invariant_of-self : goal.invariant_of-self
+invariant_of-self c =
     let s = c.args.self.now in
     let b : Book = s.book in
     let i : ℕ = c.args.run in

@@ -5,8 +5,8 @@ use Rattle.sheets.specs.Headers.{size_in}
 use Rattle.sheets.specs.Dense.{dense_checks}
 use Rattle.sheets.proofs.dense.DenseSheet.read.Goals as goal
 
-pub invariant-of-result : goal.invariant-of-result
-invariant-of-result c =
+pub invariant_of-result : goal.invariant_of-result
+invariant_of-result c =
     let bs = vec_items c.args.bytes in
-    let passed : Passes (dense_checks bs) = subst (λ (l : List ℕ). Passes (dense_checks l)) c.deref.ensures.value c.in-ok-size.ensures.0 in
-    (c.in-ok-size.ensures.1 ∙ ap size_in c.deref.ensures.value, (λ h. passes_kept (dense_checks bs) passed, tt))
+    let passed : Passes (dense_checks bs) = subst (λ (l : List ℕ). Passes (dense_checks l)) c.deref.ensures.value c.in_ok-size.ensures.0 in
+    (c.in_ok-size.ensures.1 ∙ ap size_in c.deref.ensures.value, (λ h. passes_kept (dense_checks bs) passed, tt))

@@ -11,8 +11,8 @@ sized s i h = rw s.sized (small (vec_items s.bytes) s.keeps i (rw s.sized at h))
 pub row-at-requires : goal.row-at-requires
 row-at-requires c = (sized c.args.self.now c.args.run c.if-run-self.false, omega (arith, sized c.args.self.now c.args.run c.if-run-self.false))
 
-pub overflow-mul-seat : goal.overflow-mul-seat
-overflow-mul-seat c = omega (arith, sized c.args.self.now c.args.run c.if-run-self.false)
+pub overflow_mul-seat : goal.overflow_mul-seat
+overflow_mul-seat c = omega (arith, sized c.args.self.now c.args.run c.if-run-self.false)
 
 within : (c : goal.After-row-at) → row_at c.args.self.now.size c.args.run + 4 * c.args.seat + 4 ≤ length (vec_items c.args.self.now.bytes)
 within c =
@@ -22,8 +22,8 @@ within c =
     let k : c.args.seat < size_in bs = omega (arith, s.sized) in
     rw s.sized (room bs s.keeps c.args.run c.args.seat i k)
 
-pub overflow-add-row-at : goal.overflow-add-row-at
-overflow-add-row-at c = omega (arith, within c, ap length c.deref.ensures.value, c.deref.ensures.len)
+pub overflow_add-row-at : goal.overflow_add-row-at
+overflow_add-row-at c = omega (arith, within c, ap length c.deref.ensures.value, c.deref.ensures.len)
 
 pub u32-at-requires : goal.u32-at-requires
 u32-at-requires c = omega (arith, within c, ap length c.deref.ensures.value)

@@ -5,8 +5,8 @@ use Rattle.sheets.specs.Headers.{size_in}
 use Rattle.sheets.specs.Sparse.{sparse_checks}
 use Rattle.sheets.proofs.sparse.SparseSheet.read.Goals as goal
 
-pub invariant-of-result : goal.invariant-of-result
-invariant-of-result c =
+pub invariant_of-result : goal.invariant_of-result
+invariant_of-result c =
     let bs = vec_items c.args.bytes in
-    let passed : Passes (sparse_checks bs) = subst (λ (l : List ℕ). Passes (sparse_checks l)) c.deref.ensures.value c.in-ok-size.ensures.0 in
-    (c.in-ok-size.ensures.1 ∙ ap size_in c.deref.ensures.value, (λ h. passes_kept (sparse_checks bs) passed, tt))
+    let passed : Passes (sparse_checks bs) = subst (λ (l : List ℕ). Passes (sparse_checks l)) c.deref.ensures.value c.in_ok-size.ensures.0 in
+    (c.in_ok-size.ensures.1 ∙ ap size_in c.deref.ensures.value, (λ h. passes_kept (sparse_checks bs) passed, tt))
