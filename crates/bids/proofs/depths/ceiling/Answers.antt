@@ -3,9 +3,9 @@ use Rattle.bids.proofs.depths.ceiling.Goals as goal
 
 pub returns : goal.returns
 returns c =
-    let few : c.points-scale.result ≤ 257 = omega arith in
+    let few : c.points_scale.result ≤ 257 = omega arith in
     let low : c.from.result ≤ 1000000 = omega arith in
     record {
-      value = ap₂ ◌*◌ c.points-scale.ensures (omega arith);
+      value = ap₂ ◌*◌ c.points_scale.ensures (omega arith);
       bound = omega (arith, mul-le-mul few low);
     }

@@ -9,7 +9,7 @@ use Rattle.bids.proofs.Finds.{known_skip, known_more, known_end}
 use Rattle.bids.proofs.search.take_seats.Given.{Over}
 use Rattle.bids.proofs.search.take_seats.Goals as goal
 
-below : (g : Over) (c : goal.After-take-seat-found g) → c.in-Some.seat < (g.S.PairSource.table c.args.source.now).size
+below : (g : Over) (c : goal.After-take_seat-found g) → c.in-Some.seat < (g.S.PairSource.table c.args.source.now).size
 below g c =
     let s = c.args.source.now in
     allowed_below (g.S.PairSource.table s) (g.met.S.PairSource.lawful s) c.args.run c.in-Some.seat c.in-Some.ensures.1
@@ -30,7 +30,7 @@ loop-seat-preserved g c =
     let e = c.in-Some.ensures in
     let (p, a) = worth t i k e.1 in (
       omega (arith, below g c),
-      known_more t f q i c.args.size c.loop-seat.from k p c.loop-seat.found c.take-seat-found.result c.requires c.take-seat-found.ensures e.0 e.2 a c.loop-seat.invariant.1,
+      known_more t f q i c.args.size c.loop-seat.from k p c.loop-seat.found c.take_seat-found.result c.requires c.take_seat-found.ensures e.0 e.2 a c.loop-seat.invariant.1,
     )
 
 pub returns : goal.returns

@@ -9,4 +9,4 @@ returns g c =
     let l = g.met.S.PairSource.lawful c.args.source.now in
     let seats = c.args.seats.now in
     let prices = c.args.prices.now in
-    MatchResult-weaker c.check-rules.result c.check-rules.ensures (λ a p. accepted t seats prices l p.0 a p.1) (λ f r. refused t seats prices l f r)
+    MatchResult-weaker c.check_rules.result c.check_rules.ensures (λ a p. accepted t seats prices l p.0 a p.1) (λ f r. refused t seats prices l f r)

@@ -11,6 +11,6 @@ loop-run-preserved g c =
     let seats = c.args.seats.now in
     let prices = c.args.prices.now in
     let run = c.loop-run.run in
-    let held : to_z w64 (of_z w64 c.held-net-held.result) ≡ held_net t seats prices run = ◌∙◌ {b = c.held-net-held.result} (omega (arith, ints)) c.held-net-held.ensures.value in
+    let held : to_z w64 (of_z w64 c.held_net-held.result) ≡ held_net t seats prices run = ◌∙◌ {b = c.held_net-held.result} (omega (arith, ints)) c.held_net-held.ensures.value in
     below_more (λ i. Passes (content_checks t seats prices i)) run c.loop-run.invariant
-    (subst (λ (v : ℤ). Passes (seat_checks t prices run v t.size)) held c.in_ok-check-seats.ensures)
+    (subst (λ (v : ℤ). Passes (seat_checks t prices run v t.size)) held c.in_ok-check_seats.ensures)

@@ -16,13 +16,13 @@ returns g c =
     let seats = c.args.seats.now in
     let prices = c.args.prices.now in
     let seat : c.from-seat.result ≡ seat_in seats c.args.run = c.from-seat.ensures in
-    let points : to_z w32 (of_z w32 c.unwrap-or-points.result) ≡ value (t.points c.args.run (seat_in seats c.args.run)) =
-    ◌∙◌ {b = c.unwrap-or-points.result} (omega (arith, ints)) (c.unwrap-or-points.ensures ∙ or_none c.points.result ∙ ap value c.points.ensures ∙ ap (λ (k : ℕ). value (t.points c.args.run k)) seat) in
-    let is : c.net-within.result ≡ held_net t seats prices c.args.run =
-    c.net-within.ensures.value
+    let points : to_z w32 (of_z w32 c.unwrap_or-points.result) ≡ value (t.points c.args.run (seat_in seats c.args.run)) =
+    ◌∙◌ {b = c.unwrap_or-points.result} (omega (arith, ints)) (c.unwrap_or-points.ensures ∙ or_none c.points.result ∙ ap value c.points.ensures ∙ ap (λ (k : ℕ). value (t.points c.args.run k)) seat) in
+    let is : c.net_within.result ≡ held_net t seats prices c.args.run =
+    c.net_within.ensures.value
     ∙ ap₂ (λ (n : ℕ) (z : ℤ). net n z (price_in prices c.from-seat.result)) c.requires.size points
     ∙ ap (λ (k : ℕ). net t.size (value (t.points c.args.run (seat_in seats c.args.run))) (price_in prices k)) seat in
     record {
-      value = ◌∙◌ {b = c.net-within.result} (omega (arith, ints)) is;
-      bound = omega (arith, ints, c.net-within.ensures.bound);
+      value = ◌∙◌ {b = c.net_within.result} (omega (arith, ints)) is;
+      bound = omega (arith, ints, c.net_within.ensures.bound);
     }

@@ -4,8 +4,8 @@ use Rattle.points.specs.Nets.{scaled}
 use Rattle.points.proofs.Scales.{scaled_fits}
 use Rattle.certificates.proofs.contents.net_within.Goals as goal
 
-is : (c : goal.After-scaled-points) → c.scaled-points.result ≡ scaled c.args.size c.args.points
-is c = c.scaled-points.ensures ∙ ap (scaled c.args.size) (omega (arith, ints))
+is : (c : goal.After-scaled_points) → c.scaled_points.result ≡ scaled c.args.size c.args.points
+is c = c.scaled_points.ensures ∙ ap (scaled c.args.size) (omega (arith, ints))
 
 pub overflow_sub-result : goal.overflow_sub-result
 overflow_sub-result c = omega (arith, ints, is c, scaled_fits c.args.size c.args.points (omega arith) c.ranges.points)

@@ -19,8 +19,8 @@ returns-in_err-points g c =
     let p = err_from_is_err_and c.from_residual.result c.from_residual.ensures.1 in
     rw (p.1, p.2) (c.loop-run.run, omega arith, c.loop-run.invariant.0, c.in_err-points.ensures)
 
-pub add-points-sum-requires : goal.add-points-sum-requires
-add-points-sum-requires g c =
+pub add_points-sum-requires : goal.add_points-sum-requires
+add_points-sum-requires g c =
     let s = c.args.source.now in
     let law = g.met.S.PairSource in
     let few : c.loop-run.run ≤ 256 = omega (arith, c.requires.size, c.requires.seated) in
@@ -40,6 +40,6 @@ loop-run-preserved g c =
     let more = total_more t (seat_in seats) run c.in_ok-points.points passed.1 in (
       below_more (λ i. Passes (run_checks t seats i)) run c.loop-run.invariant.0 passed.0,
       subst (Marked seats (run + 1)) (sym marks) (marked_more seats run c.loop-run.marks c.loop-run.invariant.1 below),
-      omega (arith, ints, more, c.add-points-sum.ensures, c.loop-run.invariant.2),
+      omega (arith, ints, more, c.add_points-sum.ensures, c.loop-run.invariant.2),
       ap length marks ∙ length-set c.loop-run.marks (seat_in seats run) true ∙ c.loop-run.invariant.3,
     )

@@ -18,7 +18,7 @@ returns-in_err-unless-2 g c =
     let seats = c.args.seats.now in
     let run = c.args.run in
     let is : c.from-seat.result ≡ seat_in seats run = c.from-seat.ensures in
-    let there : get_or c.args.marks.now (seat_in seats run) false ≡ true = subst (λ (k : ℕ). get_or c.args.marks.now k false ≡ true) is (sym c.is-marked.ensures ∙ marked c.is-marked.result t.0) in
+    let there : get_or c.args.marks.now (seat_in seats run) false ≡ true = subst (λ (k : ℕ). get_or c.args.marks.now k false ≡ true) is (sym c.is_marked.ensures ∙ marked c.is_marked.result t.0) in
     let low = c.requires.marked.only (seat_in seats run) there in
-    let fault : c.in_err-unless-2.field-0.0 ≡ seat_fault SeatTaken seats run = t.1 ∙ c.checker-fault-2.ensures ∙ ap (λ (k : ℕ). checker_fault SeatTaken (Some run) (Some k)) is in
+    let fault : c.in_err-unless-2.field-0.0 ≡ seat_fault SeatTaken seats run = t.1 ∙ c.checker_fault-2.ensures ∙ ap (λ (k : ℕ). checker_fault SeatTaken (Some run) (Some k)) is in
     rw (p.1, p.2) (inr (search rules, inr (search rules, subst (λ (f : Fault). Refuses (others seats run (seat_fault SeatTaken seats run)) f) (sym fault) (held_refuses seats run (seat_fault SeatTaken seats run) low.0 low.1 low.2))))

@@ -8,5 +8,5 @@ pub returns : goal.returns
 unfolding span_from span_len span_first
 returns c =
     let bs = c.args.bytes.now in
-    let at : c.span-at-at.result ≡ span_at (size_in bs) c.args.span = omega arith in
-    (c.u16-at-from.ensures ∙ ap (le16 bs) at, c.u16-at-len.ensures ∙ ap (λ (a : ℕ). le16 bs (a + 2)) at, c.u32-at-first.ensures ∙ ap (λ (a : ℕ). le32 bs (a + 4)) at)
+    let at : c.span_at-at.result ≡ span_at (size_in bs) c.args.span = omega arith in
+    (c.u16_at-from.ensures ∙ ap (le16 bs) at, c.u16_at-len.ensures ∙ ap (λ (a : ℕ). le16 bs (a + 2)) at, c.u32_at-first.ensures ∙ ap (λ (a : ℕ). le32 bs (a + 4)) at)

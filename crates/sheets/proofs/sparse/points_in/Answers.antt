@@ -14,8 +14,8 @@ returns-in_err-span c =
     let run : c.args.run < size_in bs = omega arith in
     rw c.from_residual.ensures (sym (passed_none bs c.requires.passes.1.1.0 c.args.run run c.args.seat c.args.seat (omega arith) c.in_err-span.ensures))
 
-pub point-of-requires : goal.point-of-requires
-point-of-requires c =
+pub point_of-requires : goal.point_of-requires
+point_of-requires c =
     let bs = c.args.bytes.now in
     let run : c.args.run < size_in bs = omega arith in
     let f = c.in_ok-span.ensures.1 in
@@ -38,11 +38,11 @@ returns c =
     let at : s.first + (k - s.from) ≡ span_first bs j + (k - span_from bs j) = omega (arith, f.from, f.first) in
     elim (cases_lt k s.from) [
       | inl h ↦ (
-          c.point-of.ensures
+          c.point_of.ensures
           ∙ cond-false (leb s.from k) (Some (signed32 (point_word bs (s.first + (k - s.from))))) None (lt-leb s.from k h)
           ∙ sym (gap_none bs spans c.args.run run k j f.low f.high f.before k (omega arith) (omega (arith, f.from))))
       | inr h ↦ (
-          c.point-of.ensures
+          c.point_of.ensures
           ∙ cond-true (leb s.from k) (Some (signed32 (point_word bs (s.first + (k - s.from))))) None (le-leb s.from k h)
           ∙ ap (λ (p : ℕ). Some (signed32 (point_word bs p))) at
           ∙ sym (over_some bs spans c.args.run run k j f.low f.high f.before k (omega arith) (omega (arith, f.from)) f.over))

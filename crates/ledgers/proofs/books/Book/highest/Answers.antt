@@ -15,8 +15,8 @@ loop-seat-preserved c = record {
     high : ℕ
     high = c.higher-high.result
 
-    price : c.price-at.result ≡ price_at c.args.self.now c.loop-seat.seat
-    price = c.price-at.ensures
+    price : c.price_at.result ≡ price_at c.args.self.now c.loop-seat.seat
+    price = c.price_at.ensures
 
     most : (k : ℕ) → k < c.loop-seat.seat + 1 → Dec (k ≡ c.loop-seat.seat) → price_at c.args.self.now k ≤ c.higher-high.result
     most k l (yes q) = omega (arith, ap (price_at c.args.self.now) q, price, c.higher-high.ensures.over.1)

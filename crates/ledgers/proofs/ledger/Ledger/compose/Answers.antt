@@ -11,7 +11,7 @@ use Rattle.ledgers.proofs.ledger.Ledger.compose.Goals as goal
 pub place-requires : goal.place-requires
 place-requires g c =
     let s = c.args.source.now in
-    let ready = c.in_ok-check-composing.ensures.ready in
+    let ready = c.in_ok-check_composing.ensures.ready in
     let low : (g.S.PairSource.table s).top ≤ top_limit = omega (arith, g.met.S.PairSource.topped s, g.met.S.PairSource.limits.1) in
     record {
       ready = ready.1;
@@ -21,7 +21,7 @@ place-requires g c =
 -- the bid that is found at the prices that a board shows is composed beside it
 bid_composed : (g : Over) (c : goal.After-place g) (shown : ℕ → ℕ → ℕ) → OffersIn (g.S.PairSource.table c.args.source.now) c.args.self.now.book (shown c.args.run) c.args.run (Some c.in-Some.offer) → BidComposed (g.S.PairSource.table c.args.source.now) shown c.args.self.now.book c.place.new.self.book c.args.run c.in-Some.offer
 bid_composed g c shown found =
-    let tested = c.in_ok-check-composing.ensures in
+    let tested = c.in_ok-check_composing.ensures in
     record {
       passes = subst (λ (n : ℕ). Passes (composing_checks n c.args.self.now.book c.args.run)) c.size.ensures tested.is;
       same = c.place.ensures.0;
@@ -37,14 +37,14 @@ returns-in-Some g c =
     }
 
 -- the run that is hopeless at the prices that a board shows is marked beside it
-run_marked : (g : Over) (c : goal.After-mark g) (shown : ℕ → ℕ → ℕ) → OffersIn (g.S.PairSource.table c.args.source.now) c.args.self.now.book (shown c.args.run) c.args.run None → RunMarked (g.S.PairSource.table c.args.source.now) shown c.args.self.now.book c.mark.new.self.book c.args.run c.run-fault-fault.result
+run_marked : (g : Over) (c : goal.After-mark g) (shown : ℕ → ℕ → ℕ) → OffersIn (g.S.PairSource.table c.args.source.now) c.args.self.now.book (shown c.args.run) c.args.run None → RunMarked (g.S.PairSource.table c.args.source.now) shown c.args.self.now.book c.mark.new.self.book c.args.run c.run_fault-fault.result
 run_marked g c shown none =
-    let tested = c.in_ok-check-composing.ensures in
+    let tested = c.in_ok-check_composing.ensures in
     record {
       passes = subst (λ (n : ℕ). Passes (composing_checks n c.args.self.now.book c.args.run)) c.size.ensures tested.is;
       same = c.mark.ensures.0;
       event = c.mark.ensures.1 (g.S.PairSource.table c.args.source.now) shown (sym c.size.ensures ∙ tested.ready.0) (none shown);
-      fault = c.run-fault-fault.ensures;
+      fault = c.run_fault-fault.ensures;
     }
 
 pub returns-in-None : goal.returns-in-None

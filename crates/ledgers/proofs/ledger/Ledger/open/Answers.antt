@@ -13,7 +13,7 @@ use Rattle.ledgers.proofs.ledger.Ledger.open.Goals as goal
 
 pub begin-requires : goal.begin-requires
 begin-requires c =
-    let p = c.in_ok-check-start.ensures in
+    let p = c.in_ok-check_start.ensures in
     let xs = c.args.ladder.now in
     let size = and_parts (leb 1 c.args.size) (leb c.args.size size_limit) p.0 in
     let allowed = and_parts (leb 1 c.args.allowance) (leb c.args.allowance allowance_limit) p.1.1 in
@@ -28,7 +28,7 @@ begin-requires c =
 
 pub returns : goal.returns
 returns c =
-    let p = c.in_ok-check-start.ensures in
+    let p = c.in_ok-check_start.ensures in
     let xs = c.args.ladder.now in
     let allowed = and_parts (leb 1 c.args.allowance) (leb c.args.allowance allowance_limit) p.1.1 in
     let k : Conditions = record { size = c.args.size; increments = c.padded-increments.result; phases = length xs; allowance = c.args.allowance } in

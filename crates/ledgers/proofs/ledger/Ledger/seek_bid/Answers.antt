@@ -4,7 +4,7 @@ use Rattle.ledgers.specs.Ledgers.{view_of}
 use Rattle.ledgers.proofs.ledger.Ledger.seek_bid.Given.{Over}
 use Rattle.ledgers.proofs.ledger.Ledger.seek_bid.Goals as goal
 
-terms_of : (g : Over) (c : goal.After-compose-bid g) (shown : ℕ → ℕ → ℕ) → TermsOf (g.S.PairSource.table c.args.source.now) (view_of c.args.self.now.book shown) c.terms-terms.result
+terms_of : (g : Over) (c : goal.After-compose_bid g) (shown : ℕ → ℕ → ℕ) → TermsOf (g.S.PairSource.table c.args.source.now) (view_of c.args.self.now.book shown) c.terms-terms.result
 terms_of g c shown =
     let x = c.terms-terms.ensures in record {
       size = x.size ∙ sym c.requires;
@@ -15,6 +15,6 @@ terms_of g c shown =
 
 pub returns : goal.returns
 returns g c = record {
-  limited = λ shown. c.compose-bid.ensures.limited (view_of c.args.self.now.book shown) (terms_of g c shown);
-  shown = λ sound within shown. c.compose-bid.ensures.shown sound within (view_of c.args.self.now.book shown) (terms_of g c shown);
+  limited = λ shown. c.compose_bid.ensures.limited (view_of c.args.self.now.book shown) (terms_of g c shown);
+  shown = λ sound within shown. c.compose_bid.ensures.shown sound within (view_of c.args.self.now.book shown) (terms_of g c shown);
 }

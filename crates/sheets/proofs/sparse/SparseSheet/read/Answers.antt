@@ -9,4 +9,4 @@ pub invariant_of-result : goal.invariant_of-result
 invariant_of-result c =
     let bs = vec_items c.args.bytes in
     let passed : Passes (sparse_checks bs) = subst (λ (l : List ℕ). Passes (sparse_checks l)) c.deref.ensures.value c.in_ok-size.ensures.0 in
-    (c.in_ok-size.ensures.1 ∙ ap size_in c.deref.ensures.value, (λ h. passes_kept (sparse_checks bs) passed, tt))
+    record { sized = c.in_ok-size.ensures.1 ∙ ap size_in c.deref.ensures.value; keeps = (λ h. passes_kept (sparse_checks bs) passed) }

@@ -5,8 +5,8 @@ use Rattle.sheets.specs.Sparse.{sparse_checks}
 use Rattle.sheets.specs.Ranges.{passed}
 use Rattle.sheets.proofs.sparse.SparseSheetPairSource.points.Goals as goal
 
-pub points-in-requires : goal.points-in-requires
-points-in-requires c =
+pub points_in-requires : goal.points_in-requires
+points_in-requires c =
     let s = c.args.self.now in
     let bs = vec_items s.bytes in
     let run : c.args.run < size_in bs = omega (arith, s.sized) in

@@ -5,8 +5,8 @@ use Rattle.sheets.specs.Sparse.{sparse_checks}
 use Rattle.sheets.specs.Ranges.{passed}
 use Rattle.sheets.proofs.sparse.SparseSheetRowSource.next.Goals as goal
 
-pub next-in-requires : goal.next-in-requires
-next-in-requires c =
+pub next_in-requires : goal.next_in-requires
+next_in-requires c =
     let s = c.args.self.now in
     let bs = vec_items s.bytes in
     let run : c.args.run < size_in bs = omega (arith, s.sized) in
