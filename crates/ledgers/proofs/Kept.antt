@@ -35,27 +35,44 @@ pub record Kept (b : Book) : Type 0 where
 
 -- the same as the ledger has them
 abbrev pub Rows : Book → Type 0
-Rows b =
-    ((length b.seats ≡ size_limit) × (length b.holders ≡ size_limit) × (length b.bids ≡ size_limit))
-    × (((length b.prices.prices ≡ size_limit) × (length b.conditions.increments ≡ phase_limit))
-    × (((1 ≤ b.conditions.size) × (b.conditions.size ≤ size_limit))
-    × (((1 ≤ b.phase) × (b.phase ≤ b.conditions.phases) × (b.conditions.phases ≤ phase_limit))
-    × (UpTo increment_limit b.conditions.increments
-    × (UpTo (b.phase * phase_rise) b.prices.prices
-    × ((b.high + phase_rise ≤ b.phase * phase_rise)
-    × (BidsFit b.conditions.size (b.phase * phase_rise) b.bids
-    × (Waiting b.seats b.bids
-    × (Below b.conditions.size b.holders
-    × (Below b.conditions.size b.seats
-    × (Returned b.holders b.seats
-    × (Returned b.seats b.holders
-    × ((b.seated ≡ count b.seats)
-    × ((b.counts.composed ≡ b.counts.accepted + (b.counts.outbid + (b.counts.recalled + count b.bids)))
-    × (((b.counts.phase_accepted ≤ b.counts.accepted) × (b.counts.composed ≤ b.conditions.allowance) × (b.conditions.allowance ≤ allowance_limit))
-    × Unit {0})))))))))))))))
+Rows b = record {
+  whole : (length b.seats ≡ size_limit) × (length b.holders ≡ size_limit) × (length b.bids ≡ size_limit);
+  long : (length b.prices.prices ≡ size_limit) × (length b.conditions.increments ≡ phase_limit);
+  sized : (1 ≤ b.conditions.size) × (b.conditions.size ≤ size_limit);
+  phased : (1 ≤ b.phase) × (b.phase ≤ b.conditions.phases) × (b.conditions.phases ≤ phase_limit);
+  small : UpTo increment_limit b.conditions.increments;
+  priced : UpTo (b.phase * phase_rise) b.prices.prices;
+  high : b.high + phase_rise ≤ b.phase * phase_rise;
+  fit : BidsFit b.conditions.size (b.phase * phase_rise) b.bids;
+  waiting : Waiting b.seats b.bids;
+  runs : Below b.conditions.size b.holders;
+  places : Below b.conditions.size b.seats;
+  held : Returned b.holders b.seats;
+  holding : Returned b.seats b.holders;
+  filled : b.seated ≡ count b.seats;
+  balanced : b.counts.composed ≡ b.counts.accepted + (b.counts.outbid + (b.counts.recalled + count b.bids));
+  within : (b.counts.phase_accepted ≤ b.counts.accepted) × (b.counts.composed ≤ b.conditions.allowance) × (b.conditions.allowance ≤ allowance_limit);
+}
 
 pub rows : (b : Book) → Kept b → Rows b
-rows b k = (k.whole, (k.long, (k.sized, (k.phased, (k.small, (k.priced, (k.high, (k.fit, (k.waiting, (k.runs, (k.places, (k.held, (k.holding, (k.filled, (k.balanced, (k.within, tt))))))))))))))))
+rows b k = record {
+  whole = k.whole;
+  long = k.long;
+  sized = k.sized;
+  phased = k.phased;
+  small = k.small;
+  priced = k.priced;
+  high = k.high;
+  fit = k.fit;
+  waiting = k.waiting;
+  runs = k.runs;
+  places = k.places;
+  held = k.held;
+  holding = k.holding;
+  filled = k.filled;
+  balanced = k.balanced;
+  within = k.within;
+}
 
 pub kept : (l : Ledger) → Kept l.book
 kept l = record {
