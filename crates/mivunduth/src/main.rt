@@ -6,6 +6,7 @@ mod messages;
 use crate::files::{bid_file, check_files, show_file};
 use crate::messages::{Stop, USAGE, wrong_call};
 use std::env;
+use std::process::ExitCode;
 
 // The words after the program's name.
 fn words_of(rt: &HostRuntime) -> Result<Vec<String>, Stop> {
@@ -48,12 +49,13 @@ fn call(rt: &HostRuntime) -> Result<(), Stop> {
     run(rt, &words)
 }
 
-fn main(rt: HostRuntime) -> Result<(), Stop> {
+fn main(rt: HostRuntime) -> ExitCode {
     match call(&rt) {
+        Ok(()) => ExitCode::SUCCESS,
+        Err(Stop::Said) => ExitCode::FAILURE,
         Err(Stop::Lines(error)) => {
             let _ = eprintln!(rt; "mivunduth: {error}");
-            Err(Stop::Said)
+            ExitCode::FAILURE
         }
-        answer => answer,
     }
 }
