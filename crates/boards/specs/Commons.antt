@@ -1,5 +1,5 @@
 -- What a common board means.
-use Rattle.std.specs.Prelude.{◌≡◌, ℕ}
+use Rattle.std.specs.Prelude.{◌≡◌}
 use Rattle.boards.specs.declared.states.CommonBoard.{CommonBoard}
 use Rattle.boards.specs.Calls.{Call, clears, tells, carries, settles}
 use Rattle.boards.specs.Faces.{Face, Cleared, Told, Level, within}

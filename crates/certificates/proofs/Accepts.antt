@@ -1,5 +1,5 @@
 -- The rules of a certificate pass exactly where the conditions of acceptance hold, and then the plan is best.
-use Rattle.std.proofs.Common.{◌≡◌, ℕ, ◌<◌, ◌≤◌, Bool, true, false, not, ◌&&◌, eqb, ltb, leb, ◌⊎◌, List, length, ℤ, pos, ◌+ℤ◌, ◌≤ℤ◌, is_some, Some, None, Option, sym, refl, ap, ◌∙◌, subst, inl, inr, arith}
+use Rattle.std.proofs.Common.{◌≡◌, ℕ, ◌<◌, true, not, eqb, leb, List, length, ℤ, pos, ◌+ℤ◌, ◌≤ℤ◌, is_some, Some, None, Option, sym, refl, ap, ◌∙◌, subst, inl, inr, arith}
 use borrow.Author.Differences.{ints}
 use lib.Signed.{le_z}
 use Rattle.std.proofs.lemmas.Bool.{and_parts, and_from, leb-true, le-leb, lt-ltb, eqb-true, eq-eqb, both_ways, cases_Bool, cases_order}
@@ -7,7 +7,6 @@ use Rattle.fault.specs.declared.faults.Fault.{Fault}
 use Rattle.fault.specs.Checks.{Passes, Refuses}
 use Rattle.fault.proofs.Once.{apart}
 use Rattle.points.specs.Tables.{Table, Pays, Lawful}
-use Rattle.points.specs.Limits.{price_limit}
 use Rattle.points.specs.Nets.{net}
 use Rattle.points.specs.Plans.{FullPlan, AllContent, value, total}
 use Rattle.points.proofs.Optimal.{best}

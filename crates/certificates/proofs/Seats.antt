@@ -1,5 +1,5 @@
 -- Seats of a run one after the other: gaps net nothing.
-use Rattle.std.proofs.Common.{◌≡◌, ℕ, ◌+◌, ◌<◌, ◌≤◌, true, List, ℤ, Option, ap, inl, inr, arith, below_more}
+use Rattle.std.proofs.Common.{◌≡◌, ℕ, ◌+◌, true, List, ℤ, Option, ap, inl, inr, below_more}
 use Rattle.std.proofs.lemmas.Bool.{cases_lt}
 use Rattle.fault.specs.Checks.{Passes}
 use Rattle.points.specs.Tables.{Table, Gap}

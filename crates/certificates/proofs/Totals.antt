@@ -1,5 +1,5 @@
 -- Totals: one run more, and their range.
-use Rattle.std.proofs.Common.{◌≡◌, ℕ, zero, suc, ◌+◌, ◌*◌, ◌<◌, ◌≤◌, ℤ, pos, ◌+ℤ◌, neg_ℤ, ◌≤ℤ◌, Some, None, Option, sym, refl, ap, ◌∙◌, subst, mul-le-mul, add-one, arith}
+use Rattle.std.proofs.Common.{◌≡◌, ℕ, zero, suc, ◌+◌, ◌*◌, ◌≤◌, ℤ, pos, ◌+ℤ◌, neg_ℤ, ◌≤ℤ◌, Some, None, Option, refl, ap, ◌∙◌, mul-le-mul, add-one, arith}
 use borrow.Author.Differences.{ints}
 use Rattle.points.specs.Tables.{Table, Lawful}
 use Rattle.points.specs.Plans.{value, total_to}

@@ -1,5 +1,5 @@
 -- Marks of the seats that lower runs hold.
-use Rattle.std.specs.Prelude.{◌≡◌, ℕ, ◌<◌, Bool, true, false, List, length, slice_index_or}
+use Rattle.std.specs.Prelude.{◌≡◌, ℕ, ◌<◌, Bool, true, false, List, slice_index_or}
 use Rattle.certificates.specs.Certificates.{seat_in}
 
 -- just the seats of the runs below i are marked

@@ -1,5 +1,5 @@
 -- A run's first bid: what it is, and its line.
-use Rattle.std.specs.Prelude.{◌≡◌, ℕ, ◌≤◌, ◌⊎◌, List, ◌++◌, Some, None, codes, decimal, Result, MatchResult, nat_le, nat_lt}
+use Rattle.std.specs.Prelude.{◌≡◌, ℕ, ◌⊎◌, List, ◌++◌, Some, None, codes, decimal, Result, MatchResult, nat_le, nat_lt}
 use Rattle.std.specs.Fmt.{signed_decimal}
 use Rattle.fault.specs.declared.causes.Cause.TheVariants.{Number, Size}
 use Rattle.fault.specs.declared.layers.Layer.TheVariants.{Exchange}

@@ -1,5 +1,5 @@
 -- A refusal has one fault, nothing refused passes, and the computed answer says which it is.
-use Rattle.std.proofs.Common.{◌≡◌, ℕ, zero, suc, ◌<◌, Bool, true, false, not, ◌⊎◌, is_some, Some, None, Option, sym, refl, ap, ◌∙◌, subst, inl, inr, arith, MatchOption}
+use Rattle.std.proofs.Common.{◌≡◌, ℕ, zero, suc, Bool, true, false, not, is_some, Some, None, Option, sym, refl, ◌∙◌, subst, inl, inr, arith, MatchOption}
 use Rattle.std.proofs.lemmas.Bool.{both_ways, cases_order, cases_eq}
 use Rattle.fault.specs.declared.faults.Fault.{Fault}
 use Rattle.fault.specs.Checks.{Checks, test, each, ◌then◌, Passes, Refuses, or_else, first_of, answer, kept}

@@ -1,5 +1,5 @@
 -- Faults by what they name.
-use Rattle.std.specs.Prelude.{ℕ, Some, None, Option}
+use Rattle.std.specs.Prelude.{ℕ, None, Option}
 use Rattle.fault.specs.declared.causes.Cause.{Cause}
 use Rattle.fault.specs.declared.layers.Layer.{Layer}
 use Rattle.fault.specs.declared.faults.Place.TheVariants.{Byte, Phase}

@@ -1,6 +1,5 @@
 -- Every write of an event keeps the rules of a ledger.
-use Rattle.std.proofs.Common.{◌≡◌, ℕ, ◌+◌, ◌*◌, ◌<◌, ◌≤◌, Bool, true, false, ◌≢◌, List, length, get_or, set, replicate, is_some as option_is_some, Some, None, Option, sym, refl, ap, ◌∙◌, subst, arith, length-set, get_or-set_other, get_or-set_same}
-use native.Mathlib.Decide.{ℕ_discrete}
+use Rattle.std.proofs.Common.{◌≡◌, ℕ, ◌+◌, ◌*◌, ◌<◌, ◌≤◌, false, length, get_or, set, replicate, is_some as option_is_some, Some, None, Option, sym, ap, ◌∙◌, subst, arith, length-set}
 use lib.ListN.{length-replicate}
 use Rattle.ledgers.specs.declared.books.Bid.{Bid}
 use Rattle.ledgers.specs.declared.books.Book.{Book}
@@ -9,10 +8,9 @@ use Rattle.ledgers.specs.declared.books.Counts.{Counts}
 use Rattle.ledgers.specs.declared.ledger.Ledger.{Ledger}
 use Rattle.points.specs.Limits.{size_limit}
 use Rattle.auction.specs.Limits.{phase_limit, increment_limit, allowance_limit}
-use Rattle.ledgers.specs.Rules.{phase_rise, count, names, BidsFit, Waiting, Below, Returned, UpTo}
-use Rattle.ledgers.specs.Books.{seat_at, holder_at, bid_at, freed, seated_after, blank, placed, marked, landed, dropped, advanced}
-use Rattle.ledgers.proofs.Entries.{each_set, same, none_is_some, empty_some, is_none, names_some, some_names, count_none, count_some, count_empty}
-use Rattle.auction.proofs.Holders.{is_some}
+use Rattle.ledgers.specs.Rules.{phase_rise, count, BidsFit, Waiting, Below, Returned, UpTo}
+use Rattle.ledgers.specs.Books.{seat_at, bid_at, blank, placed, marked, dropped, advanced}
+use Rattle.ledgers.proofs.Entries.{each_set, same, none_is_some, empty_some, count_none, count_some, count_empty}
 
 -- the rules of a ledger, of its book
 pub record Kept (b : Book) : Type 0 where

@@ -1,10 +1,8 @@
 -- Ladders that pass their checks, in a row that begins with them.
-use Rattle.std.proofs.Common.{◌≡◌, ℕ, zero, suc, ◌+◌, ◌-◌, ◌<◌, ◌≤◌, Bool, true, false, ◌&&◌, eqb, ltb, leb, List, [], ◌∷◌, length, get_or, take, drop, sym, refl, ap, ◌∙◌, subst, ap₂, le_of_suc-le-suc, not-suc-le-zero, arith}
+use Rattle.std.proofs.Common.{◌≡◌, ℕ, zero, suc, ◌+◌, ◌-◌, ◌<◌, ◌≤◌, true, eqb, leb, List, [], ◌∷◌, length, get_or, take, drop, refl, subst, ap₂, le_of_suc-le-suc, not-suc-le-zero, arith}
 use Rattle.std.proofs.lemmas.Bool.{leb-true, ltb-true, eqb-true, and_parts}
 use Rattle.fault.specs.Checks.{Passes}
-use Rattle.points.specs.Limits.{size_limit}
-use Rattle.auction.specs.Limits.{phase_limit, increment_limit, allowance_limit}
-use Rattle.ledgers.specs.Opening.{Copied}
+use Rattle.auction.specs.Limits.{phase_limit, increment_limit}
 use Rattle.ledgers.specs.Refusals.{ladder_checks}
 use Rattle.ledgers.specs.Rules.{UpTo}
 use Rattle.auction.specs.Runs.{FallsToOne, Ladder}

@@ -1,9 +1,9 @@
 -- The rules of a ledger once a bid has landed.
-use Rattle.std.proofs.Common.{◌≡◌, ℕ, ◌+◌, ◌*◌, ◌<◌, ◌≤◌, Bool, true, false, ◌≢◌, List, length, get_or, set, is_some as option_is_some, Some, None, Option, sym, refl, ap, ◌∙◌, subst, arith, length-set, get_or-set_other, get_or-set_same}
+use Rattle.std.proofs.Common.{◌≡◌, ℕ, ◌+◌, ◌*◌, ◌<◌, ◌≤◌, false, ◌≢◌, List, length, get_or, set, is_some as option_is_some, Some, None, Option, sym, refl, ap, ◌∙◌, subst, arith, length-set, get_or-set_other, get_or-set_same}
 use native.Mathlib.Decide.{ℕ_discrete}
 use Rattle.ledgers.specs.declared.books.Bid.{Bid}
 use Rattle.ledgers.specs.declared.books.Book.{Book}
-use Rattle.ledgers.specs.Rules.{phase_rise, count, names, Waiting, Below, Returned}
+use Rattle.ledgers.specs.Rules.{phase_rise, count, Waiting, Below, Returned}
 use Rattle.ledgers.specs.Books.{seat_at, holder_at, bid_at, freed, seated_after, landed}
 use Rattle.ledgers.proofs.Entries.{each_set, none_is_some, is_none, names_some, some_names, count_none, count_some}
 use Rattle.auction.proofs.Holders.{is_some}

@@ -1,18 +1,16 @@
 -- The writes of a book are the market's events.
-use Rattle.std.proofs.Common.{◌≡◌, ℕ, zero, suc, ◌+◌, ◌-◌, ◌*◌, ◌<◌, ◌≤◌, Bool, true, false, ◌&&◌, leb, ◌≢◌, List, [], ◌∷◌, length, get_or, take, drop, set, replicate, Some, None, Option, sym, refl, ap, ◌∙◌, subst, arith, length-take, drop-cons, get_or-set_other, get_or-take, get_or-set_same}
+use Rattle.std.proofs.Common.{◌≡◌, ℕ, suc, ◌+◌, ◌-◌, ◌<◌, ◌≤◌, ◌≢◌, List, ◌∷◌, length, get_or, take, drop, set, Some, None, Option, sym, refl, ap, ◌∙◌, subst, arith, length-take, drop-cons, get_or-set_other, get_or-take, get_or-set_same}
 use Rattle.points.specs.Tables.{Table}
 use Rattle.ledgers.specs.declared.books.Bid.{Bid}
 use Rattle.ledgers.specs.declared.books.Book.{Book}
 use Rattle.ledgers.specs.declared.books.Conditions.{Conditions}
 use Rattle.ledgers.specs.declared.books.Counts.{Counts}
 use Rattle.points.specs.Limits.{size_limit}
-use Rattle.auction.specs.Limits.{phase_limit, increment_limit, allowance_limit}
-use Rattle.ledgers.specs.Rules.{phase_rise, count}
+use Rattle.auction.specs.Limits.{allowance_limit}
+use Rattle.ledgers.specs.Rules.{count}
 use Rattle.ledgers.specs.Books.{price_at, seat_at, holder_at, bid_at, increment_of, ladder_of, freed, blank, placed, marked, landed, dropped, advanced, count_outbid, count_recalled}
-use Rattle.auction.specs.Markets.{Market, Holds, Free, Out, AllSeated, ShownBelow}
-use Rattle.auction.specs.Bids.{BestBid, Hopeless}
-use Rattle.auction.specs.Changes.{Counted, SamePhase, SameSeats, SameBids, BidSet, SameShown}
-use Rattle.auction.specs.Events.{MayBid, Composed, Marked, Displaced, Landed, Dropped, Outbid, Recalled, Highest, Advanced}
+use Rattle.auction.specs.Changes.{BidSet}
+use Rattle.auction.specs.Events.{MayBid, Dropped, Highest}
 use Rattle.ledgers.specs.Ledgers.{bid_of, view_of, unshown, Ready, Deliverable, Composes, Marks, Lands, Outbids, Recalls, Advances}
 use Rattle.ledgers.specs.Opening.{Copied}
 use Rattle.auction.specs.Runs.{Ladder, Opened}

@@ -1,5 +1,5 @@
 -- The parts of a book, and what each event writes in it.
-use Rattle.std.specs.Prelude.{ℕ, ◌+◌, ◌-◌, ◌*◌, List, [], ◌∷◌, take, replicate, Some, None, Option, slice_index, slice_index_or, slice_set}
+use Rattle.std.specs.Prelude.{ℕ, ◌+◌, ◌-◌, List, take, replicate, Some, None, Option, slice_index, slice_index_or, slice_set}
 use Rattle.points.specs.Limits.{size_limit}
 use Rattle.ledgers.specs.declared.books.Bid.{Bid}
 use Rattle.ledgers.specs.declared.books.Book.{Book}

@@ -1,5 +1,5 @@
 -- The market that a ledger stands for, and what its operations do, in the market's words.
-use Rattle.std.specs.Prelude.{◌≡◌, ℕ, ◌+◌, ◌*◌, ◌<◌, ◌≤◌, true, false, List, [], ◌∷◌, drop, is_some, Some, None, Option}
+use Rattle.std.specs.Prelude.{◌≡◌, ℕ, ◌<◌, true, false, List, ◌∷◌, drop, is_some, Some, None, Option}
 use Rattle.points.specs.Tables.{Table}
 use Rattle.ledgers.specs.declared.books.Bid.{Bid as Offer}
 use Rattle.ledgers.specs.declared.books.Book.{Book}

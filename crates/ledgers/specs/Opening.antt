@@ -1,5 +1,5 @@
 -- A ladder copied into a longer row.
-use Rattle.std.specs.Prelude.{◌≡◌, ℕ, ◌<◌, ◌≤◌, List, length, slice_index}
+use Rattle.std.specs.Prelude.{◌≡◌, ℕ, List, length, slice_index}
 use Rattle.auction.specs.Limits.{phase_limit}
 
 -- the row begins with the ladder, and has zeros behind it

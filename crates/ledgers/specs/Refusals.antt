@@ -1,5 +1,5 @@
 -- The tests of each call of a started auction in their order, with the whole fault of each failure.
-use Rattle.std.specs.Prelude.{ℕ, ◌+◌, ◌-◌, Bool, not, ◌&&◌, List, length, is_some, Some, None, Option, ◌==◌, nat_le, nat_lt, slice_index}
+use Rattle.std.specs.Prelude.{ℕ, ◌+◌, ◌-◌, not, ◌&&◌, List, length, is_some, Some, None, Option, ◌==◌, nat_le, nat_lt, slice_index}
 use Rattle.fault.specs.declared.causes.Cause.{Cause}
 use Rattle.fault.specs.declared.causes.Cause.TheVariants.{Size, Ladder, Allowance, Number, HoldsSeat, BidOut, NoBidOut, AllowanceSpent, NoFullPlan, RunFree, LastPhase}
 use Rattle.fault.specs.declared.layers.Layer.TheVariants.{Exchange}

@@ -1,5 +1,5 @@
 -- A full plan whose runs are all content is best, but for the increment.
-use Rattle.std.proofs.Common.{◌≡◌, ℕ, zero, suc, ◌+◌, ◌*◌, ◌<◌, ◌≤◌, ℤ, pos, ◌+ℤ◌, ◌≤ℤ◌, Option, ap, arith}
+use Rattle.std.proofs.Common.{◌≡◌, ℕ, zero, suc, ◌*◌, ◌≤◌, ℤ, pos, ◌+ℤ◌, ◌≤ℤ◌, Option, ap, arith}
 use borrow.Author.Differences.{ints}
 use Rattle.points.specs.Tables.{Table, Lawful}
 use Rattle.points.specs.Nets.{scaled}

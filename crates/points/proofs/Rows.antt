@@ -1,5 +1,5 @@
 -- Seats of a run noted one after the other.
-use Rattle.std.proofs.Common.{◌≡◌, ℕ, zero, suc, ◌+◌, ◌-◌, ◌<◌, ◌≤◌, ℤ, None, Option, sym, refl, ap, ◌∙◌, add-one, arith}
+use Rattle.std.proofs.Common.{◌≡◌, ℕ, zero, suc, ◌+◌, ◌-◌, ◌<◌, ◌≤◌, None, ap, ◌∙◌, add-one, arith}
 use Rattle.points.specs.declared.summaries.Summary.{Summary}
 use Rattle.points.specs.Tables.{Table, Allowed, Lawful, Gap}
 use Rattle.points.specs.Summaries.{noted, row_noted}

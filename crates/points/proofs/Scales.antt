@@ -1,5 +1,5 @@
 -- Scaled points: their range, and how they add up.
-use Rattle.std.proofs.Common.{◌≡◌, ℕ, ◌+◌, ◌*◌, ◌<◌, ◌≤◌, true, ℤ, pos, ◌+ℤ◌, ◌*ℤ◌, neg_ℤ, ◌≤ℤ◌, is_some, Some, None, Option, refl, ap, mul-le-mul_right, mul-le-mul_left, arith, w32, SFits}
+use Rattle.std.proofs.Common.{◌≡◌, ℕ, ◌+◌, ◌*◌, ◌<◌, ◌≤◌, true, ℤ, pos, ◌+ℤ◌, neg_ℤ, ◌≤ℤ◌, is_some, Some, None, Option, refl, ap, mul-le-mul_right, mul-le-mul_left, arith, w32, SFits}
 use native.Mathlib.Decide.{dec_le}
 use borrow.Author.Differences.{ints, up, down, sum_is_lem}
 use Rattle.points.specs.Tables.{Table, Pays, Allowed}

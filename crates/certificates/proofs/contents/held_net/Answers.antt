@@ -1,4 +1,4 @@
-use Rattle.std.proofs.Common.{◌≡◌, ℕ, ℤ, pos, Some, None, Option, unwrap_or, sym, refl, ap, ◌∙◌, ap₂, arith, w32, w64, to_z, of_z}
+use Rattle.std.proofs.Common.{◌≡◌, ℕ, ℤ, pos, Some, None, Option, unwrap_or, refl, ap, ◌∙◌, ap₂, arith, w32, to_z, of_z}
 use borrow.Author.Differences.{ints}
 use Rattle.points.specs.Tables.{Table}
 use Rattle.points.specs.Nets.{net}

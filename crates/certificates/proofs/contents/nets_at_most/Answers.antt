@@ -1,4 +1,4 @@
-use Rattle.std.proofs.Common.{◌≡◌, ℕ, ℤ, pos, ◌+ℤ◌, Some, Option, sym, ap, ◌∙◌, ap₂, arith, w32, w64, to_z, of_z}
+use Rattle.std.proofs.Common.{◌≡◌, ℕ, ℤ, pos, ◌+ℤ◌, Some, Option, ap, ◌∙◌, ap₂, arith, w32, w64, to_z, of_z}
 use borrow.Author.Differences.{ints}
 use lib.Signed.{le_z}
 use Rattle.points.specs.Tables.{Table}

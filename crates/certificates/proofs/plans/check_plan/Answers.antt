@@ -1,14 +1,12 @@
-use Rattle.std.proofs.Common.{◌≡◌, ℕ, ◌+◌, ◌<◌, ◌≤◌, Bool, true, List, length, set, ℤ, pos, ◌+ℤ◌, neg_ℤ, ◌≤ℤ◌, Some, sym, refl, ap, ◌∙◌, subst, arith, length-set, w64, SFits, to_z, of_z, rules, below_more}
+use Rattle.std.proofs.Common.{◌≡◌, ℕ, ◌+◌, ◌<◌, ◌≤◌, true, length, set, sym, refl, ap, ◌∙◌, subst, arith, length-set, below_more}
 use borrow.Author.Differences.{ints}
 use Rattle.std.proofs.lemmas.Result.{err_from_is_err_and}
 use Rattle.std.proofs.lemmas.Bool.{ltb-true}
-use Rattle.fault.specs.Checks.{Passes, Refuses, each}
-use Rattle.points.specs.Plans.{total_to}
+use Rattle.fault.specs.Checks.{Passes}
 use Rattle.certificates.specs.Certificates.{seat_in, run_checks}
 use Rattle.certificates.specs.Marks.{Marked}
 use Rattle.certificates.proofs.Taken.{marked_none, marked_more}
 use Rattle.certificates.proofs.Totals.{total_more, total_within}
-use Rattle.certificates.proofs.plans.check_plan.Given.{Over}
 use Rattle.certificates.proofs.plans.check_plan.Goals as goal
 
 pub loop-run-init : goal.loop-run-init

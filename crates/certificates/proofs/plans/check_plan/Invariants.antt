@@ -1,4 +1,4 @@
-use Rattle.std.proofs.Common.{◌≡◌, ◌≤◌, length}
+use Rattle.std.proofs.Common.{◌≡◌, length}
 use Rattle.fault.specs.Checks.{Passes, each}
 use Rattle.points.specs.Plans.{total_to}
 use Rattle.certificates.specs.Certificates.{seat_in, run_checks}

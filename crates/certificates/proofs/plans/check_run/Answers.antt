@@ -1,4 +1,4 @@
-use Rattle.std.proofs.Common.{◌≡◌, ℕ, ◌<◌, Bool, true, false, not, get_or, Some, sym, refl, ap, ◌∙◌, subst, inr, rules}
+use Rattle.std.proofs.Common.{◌≡◌, ℕ, Bool, true, false, not, get_or, Some, sym, refl, ap, ◌∙◌, subst, inr, rules}
 use Rattle.std.proofs.lemmas.Result.{err_from_is_err_and}
 use Rattle.fault.specs.declared.causes.Cause.TheVariants.{SeatTaken}
 use Rattle.fault.specs.declared.faults.Fault.{Fault}

@@ -1,10 +1,9 @@
-use Rattle.std.proofs.Common.{◌≡◌, ℕ, min, ℤ, sym, refl, ap, ◌∙◌, subst, ap₂, arith, w64, to_z, of_z}
+use Rattle.std.proofs.Common.{◌≡◌, ℕ, min, ℤ, sym, refl, ap, ◌∙◌, subst, ap₂, arith}
 use borrow.Author.Differences.{ints}
 use Rattle.points.specs.Limits.{price_limit}
-use Rattle.points.specs.Tables.{Table, Pays}
+use Rattle.points.specs.Tables.{Table}
 use Rattle.boards.specs.Commons.{common_face}
 use Rattle.boards.specs.Faces.{Face, Cleared}
-use Rattle.auction.specs.Bids.{BestBid, Hopeless}
 use Rattle.bids.specs.Depths.{floor_of}
 use Rattle.auction.specs.Markets.{Market}
 use Rattle.bids.specs.Searches.{HasTerms, TermsOf, terms_floor, limited_to, Finds}

@@ -1,5 +1,4 @@
-use Rattle.std.proofs.Common.{◌≡◌, ℕ, ◌+◌, ◌<◌, ◌≤◌, ℤ, Option, sym, ap, ◌∙◌, ap₂, arith}
-use Rattle.points.specs.declared.summaries.Summary.{Summary}
+use Rattle.std.proofs.Common.{◌<◌, sym, ap, ◌∙◌, ap₂, arith}
 use Rattle.points.specs.Tables.{Table}
 use Rattle.points.specs.Summaries.{noted, row_noted}
 use Rattle.points.proofs.Rows.{allowed_below, row_gap, row_more}

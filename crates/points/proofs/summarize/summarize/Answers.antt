@@ -1,4 +1,4 @@
-use Rattle.std.proofs.Common.{◌≡◌, sym, ap, ◌∙◌, add-one}
+use Rattle.std.proofs.Common.{sym, ap, ◌∙◌, add-one}
 use Rattle.points.specs.declared.summaries.Summary.{Summary}
 use Rattle.points.specs.Tables.{Table}
 use Rattle.points.specs.Summaries.{row_noted, summary_to}

@@ -1,4 +1,4 @@
-use Rattle.std.proofs.Common.{◌≡◌, true, is_ok, vec_items, ap}
+use Rattle.std.proofs.Common.{is_ok, vec_items, ap}
 use Rattle.sheets.specs.Words.{reads_more}
 use Rattle.sheets.proofs.certificate_files.read_prices.Goals as goal
 

@@ -1,4 +1,4 @@
-use Rattle.std.proofs.Common.{ℕ, ◌≤◌, length, replicate}
+use Rattle.std.proofs.Common.{replicate}
 use lib.ListN.{length-replicate}
 use Rattle.std.proofs.lemmas.List.{get_or-replicate, get_or_past}
 use Rattle.boards.proofs.rows.PriceRow.filled.Goals as goal

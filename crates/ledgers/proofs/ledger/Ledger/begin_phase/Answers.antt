@@ -1,11 +1,10 @@
-use Rattle.std.proofs.Common.{◌≡◌, ℕ, ◌+◌, ◌*◌, ◌<◌, ◌≤◌, eqb, ltb, length, Some, None, sym, refl, ap, ◌∙◌, subst, arith}
-use Rattle.ledgers.specs.declared.books.Bid.{Bid}
+use Rattle.std.proofs.Common.{◌≡◌, ℕ, ◌*◌, ◌≤◌, length, sym, ◌∙◌, subst, arith}
 use Rattle.ledgers.specs.declared.books.Book.{Book}
 use Rattle.std.proofs.lemmas.Bool.{eqb-true, ltb-true}
-use Rattle.ledgers.specs.Books.{price_at, advanced}
+use Rattle.ledgers.specs.Books.{advanced}
 use Rattle.ledgers.specs.Ledgers.{Advances}
 use Rattle.ledgers.specs.Rules.{phase_rise, count}
-use Rattle.ledgers.proofs.Entries.{is_none, not_some}
+use Rattle.ledgers.proofs.Entries.{not_some}
 use Rattle.ledgers.proofs.Kept.{Rows, rows, kept, advanced_kept}
 use Rattle.ledgers.proofs.Views.{advances_view}
 use Rattle.ledgers.proofs.ledger.Ledger.begin_phase.Goals as goal

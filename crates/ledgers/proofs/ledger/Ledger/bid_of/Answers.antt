@@ -1,4 +1,4 @@
-use Rattle.std.proofs.Common.{is_some, None, sym, ap, arith}
+use Rattle.std.proofs.Common.{None, sym, arith}
 use Rattle.std.proofs.lemmas.List.{get_or_past}
 use Rattle.ledgers.proofs.ledger.Ledger.bid_of.Goals as goal
 

@@ -1,4 +1,4 @@
-use Rattle.std.proofs.Common.{◌≡◌, ℕ, ◌≤◌, Some, None, sym, ◌∙◌, subst, inr, arith}
+use Rattle.std.proofs.Common.{ℕ, ◌≤◌, Some, None, sym, ◌∙◌, subst, inr, arith}
 use Rattle.fault.specs.Checks.{Passes}
 use Rattle.points.specs.Limits.{top_limit}
 use Rattle.bids.specs.Searches.{limited_to}

@@ -1,5 +1,4 @@
-use Rattle.std.proofs.Common.{◌≡◌, ℕ, ◌+◌, ◌*◌, ◌<◌, ◌≤◌, length, Some, None, sym, refl, ap, ◌∙◌, subst, arith}
-use Rattle.ledgers.specs.declared.books.Bid.{Bid}
+use Rattle.std.proofs.Common.{ℕ, ◌<◌, length, sym, refl, subst, arith}
 use Rattle.ledgers.specs.declared.books.Book.{Book}
 use Rattle.ledgers.specs.Books.{dropped, count_recalled}
 use Rattle.ledgers.specs.Ledgers.{Recalls}

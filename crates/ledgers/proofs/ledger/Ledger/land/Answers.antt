@@ -1,8 +1,8 @@
-use Rattle.std.proofs.Common.{◌≡◌, ℕ, ◌+◌, ◌*◌, ◌<◌, ◌≤◌, length, Option, sym, refl, ap, ◌∙◌, subst, arith}
+use Rattle.std.proofs.Common.{◌≡◌, ℕ, ◌<◌, ◌≤◌, length, Option, sym, ap, ◌∙◌, subst, arith}
 use Rattle.points.specs.Limits.{size_limit}
 use Rattle.ledgers.specs.declared.books.Bid.{Bid}
 use Rattle.ledgers.specs.declared.books.Book.{Book}
-use Rattle.ledgers.specs.Books.{price_at, increment_of, holder_at, landed}
+use Rattle.ledgers.specs.Books.{holder_at, landed}
 use Rattle.ledgers.specs.Ledgers.{Lands}
 use Rattle.ledgers.specs.Rules.{count}
 use Rattle.ledgers.proofs.Entries.{count_most, found_at}

@@ -1,9 +1,9 @@
-use Rattle.std.proofs.Common.{◌≡◌, ℕ, ◌≤◌, leb, List, ◌∷◌, length, get_or, drop, sym, refl, ap, ◌∙◌, subst, arith}
+use Rattle.std.proofs.Common.{◌≡◌, leb, ◌∷◌, length, drop, sym, refl, ap, ◌∙◌, subst, arith}
 use Rattle.std.proofs.lemmas.Bool.{leb-true, and_parts}
 use Rattle.ledgers.specs.declared.books.Book.{Book}
 use Rattle.ledgers.specs.declared.books.Conditions.{Conditions}
 use Rattle.points.specs.Limits.{size_limit}
-use Rattle.auction.specs.Limits.{allowance_limit, increment_limit}
+use Rattle.auction.specs.Limits.{allowance_limit}
 use Rattle.ledgers.specs.Books.{blank, increment_of, ladder_of}
 use Rattle.ledgers.specs.Ledgers.{view_of, unshown}
 use Rattle.auction.specs.Runs.{Opened}

@@ -1,4 +1,4 @@
-use Rattle.std.proofs.Common.{◌≡◌, ℕ, sym, ◌∙◌}
+use Rattle.std.proofs.Common.{ℕ, sym, ◌∙◌}
 use Rattle.bids.specs.Searches.{TermsOf}
 use Rattle.ledgers.specs.Ledgers.{view_of}
 use Rattle.ledgers.proofs.ledger.Ledger.seek_bid.Given.{Over}
