@@ -1,7 +1,7 @@
 -- Every worked case holds.
-use Rattle.std.proofs.Common.{◌≡◌, ℕ, true, List, [], ◌∷◌, ◌++◌, map, ℤ, pos, Some, None, Option, refl}
+use Rattle.std.proofs.Common.{◌≡◌, ℕ, List, [], ◌∷◌, ◌++◌, map, pos, Some, refl}
 use Rattle.fault.specs.declared.faults.Fault.{Fault}
-use Rattle.fault.specs.Checks.{Checks, Passes, Refuses, answer, kept}
+use Rattle.fault.specs.Checks.{Checks, Passes, Refuses, answer}
 use Rattle.fault.proofs.Once.{computed, kept_passes}
 use Rattle.std.proofs.lemmas.Option.{MatchOption-at_some}
 use Rattle.points.specs.Tables.{Lawful}
@@ -21,7 +21,7 @@ use Rattle.boards.specs.Cases as boards
 use Rattle.boards.proofs.Worked as boardly
 use Rattle.auction.specs.Figures as auctions
 use Rattle.auction.proofs.Figures.{figures_hold}
-use Rattle.cases.specs.Cases.{Case, board, auction, Holds, AllHold, sheet_cases, checker_cases, worked_cases}
+use Rattle.cases.specs.Cases.{Case, board, auction, AllHold, sheet_cases, checker_cases, worked_cases}
 
 -- a fault that is computed is the fault of a refusal
 faulted : (c : Checks) (f : Fault) → answer c ≡ Some f → Refuses c f
