@@ -1,5 +1,5 @@
 // The calls of an auction, made one after another on a ledger and a board, and printed with their answers.
-use bids::sought::Offer;
+use bidding::sought::Offer;
 use boards::board::PriceBoard;
 use fault::faults::Fault;
 use ledgers::deliveries::Delivery;

@@ -9,10 +9,10 @@ use Rattle.fault.specs.Checks.{Checks, test, ◌then◌, Passes, Refuses}
 use Rattle.points.specs.Limits.{size_limit}
 use Rattle.points.specs.Tables.{Table}
 use Rattle.auction.specs.Bids.{BestBid, Hopeless}
-use Rattle.bids.specs.Depths.{floor_of}
+use Rattle.bidding.specs.Depths.{floor_of}
 use Rattle.auction.specs.Markets.{Market}
-use Rattle.bids.specs.Searches.{Finds}
-use Rattle.bids.specs.declared.sought.Sought.{Sought}
+use Rattle.bidding.specs.Searches.{Finds}
+use Rattle.bidding.specs.declared.sought.Sought.{Sought}
 use Rattle.sheets.specs.Kinds.{sheet_checks, sheet_table}
 use Rattle.commands.specs.declared.first_bid.FirstBid.{FirstBid}
 use Rattle.commands.specs.declared.first_bid.BidLine.{BidLine}

@@ -1,13 +1,13 @@
 // The command `bid`: a run's first bid over a sheet.
 ghost use Rattle.std.specs.Prelude.{◌≡◌};
-ghost use Rattle.bids.specs.Searches.{HasTerms};
+ghost use Rattle.bidding.specs.Searches.{HasTerms};
 ghost use Rattle.sheets.specs.Dense.{dense_checks, dense_table};
 ghost use Rattle.sheets.specs.Sparse.{sparse_checks, sparse_table};
 ghost use Rattle.commands.specs.FirstBids.{BidsOrNone, FirstBidOf, BidBy, BidOver};
 
 use crate::first_bid::{BidLine, FirstBid};
-use bids::search::{compose_bid, seek};
-use bids::terms::Terms;
+use bidding::search::{compose_bid, seek};
+use bidding::terms::Terms;
 use boards::board::PriceBoard;
 use boards::states::CommonBoard;
 use fault::causes::Cause;

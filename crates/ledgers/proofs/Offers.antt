@@ -6,7 +6,7 @@ use Rattle.auction.specs.Limits.{increment_limit}
 use Rattle.auction.specs.Markets.{Market}
 use Rattle.auction.specs.Bids.{ceiling, cap, BestBid}
 use Rattle.auction.proofs.Floors.{bid_capped}
-use Rattle.bids.specs.Depths.{ceiling_limit}
+use Rattle.bidding.specs.Depths.{ceiling_limit}
 use Rattle.ledgers.specs.declared.ledger.Ledger.{Ledger}
 use Rattle.ledgers.specs.Rules.{phase_rise}
 use Rattle.ledgers.specs.Books.{increment_of}

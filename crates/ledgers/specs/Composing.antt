@@ -5,8 +5,8 @@ use Rattle.fault.specs.declared.faults.Fault.{Fault}
 use Rattle.fault.specs.Checks.{Checks, test, ◌then◌, Passes, Refuses}
 use Rattle.points.specs.Tables.{Table}
 use Rattle.auction.specs.Events.{Composed, Marked}
-use Rattle.bids.specs.declared.sought.Offer.{Offer}
-use Rattle.bids.specs.Searches.{Composes}
+use Rattle.bidding.specs.declared.sought.Offer.{Offer}
+use Rattle.bidding.specs.Searches.{Composes}
 use Rattle.ledgers.specs.declared.books.Book.{Book}
 use Rattle.ledgers.specs.Ledgers.{view_of}
 use Rattle.ledgers.specs.Refusals.{phase_fault, run_fault, compose_checks}

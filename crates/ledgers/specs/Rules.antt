@@ -2,7 +2,7 @@
 use Rattle.std.specs.Prelude.{◌≡◌, ℕ, ◌+◌, ◌*◌, ◌<◌, ◌≤◌, Bool, true, false, List, [], ◌∷◌, is_some, Some, None, Option, ◌==◌, slice_index, slice_index_or}
 use Rattle.points.specs.Limits.{size_limit}
 use Rattle.auction.specs.Limits.{increment_limit}
-use Rattle.bids.specs.Depths.{ceiling_limit}
+use Rattle.bidding.specs.Depths.{ceiling_limit}
 use Rattle.ledgers.specs.declared.books.Bid.{Bid}
 
 -- what a phase can add to the highest price at most, within the limits

@@ -2,15 +2,15 @@
 ghost use Rattle.std.specs.Prelude.{◌≡◌, ◌≤◌, MatchResult, OnOk};
 ghost use Rattle.fault.specs.Checks.{Passes, Refuses};
 ghost use Rattle.points.specs.Limits.{top_limit};
-ghost use Rattle.bids.specs.Searches.{HasTerms, limited_to, ToldWithin};
+ghost use Rattle.bidding.specs.Searches.{HasTerms, limited_to, ToldWithin};
 ghost use Rattle.ledgers.specs.Books.{increment_of};
 ghost use Rattle.ledgers.specs.Ledgers.{size_of, Ready};
 ghost use Rattle.ledgers.specs.Composing.{composing_checks, OffersIn, Composing};
 
 use crate::ledger::Ledger;
-use bids::search::compose_bid;
-use bids::sought::Offer;
-use bids::terms::Terms;
+use bidding::search::compose_bid;
+use bidding::sought::Offer;
+use bidding::terms::Terms;
 use boards::board::PriceBoard;
 use fault::causes::Cause;
 use fault::faults::Fault;

@@ -4,10 +4,10 @@ use Rattle.points.specs.Limits.{price_limit}
 use Rattle.points.specs.Tables.{Table}
 use Rattle.boards.specs.Commons.{common_face}
 use Rattle.boards.specs.Faces.{Face, Cleared}
-use Rattle.bids.specs.Depths.{floor_of}
+use Rattle.bidding.specs.Depths.{floor_of}
 use Rattle.auction.specs.Markets.{Market}
-use Rattle.bids.specs.Searches.{HasTerms, TermsOf, terms_floor, limited_to, Finds}
-use Rattle.bids.specs.declared.terms.Terms.{Terms}
+use Rattle.bidding.specs.Searches.{HasTerms, TermsOf, terms_floor, limited_to, Finds}
+use Rattle.bidding.specs.declared.terms.Terms.{Terms}
 use Rattle.commands.specs.FirstBids.{Fresh, FreePrices}
 use Rattle.commands.proofs.bids.bid_line.Goals as goal
 

@@ -1,7 +1,7 @@
 use Rattle.std.proofs.Common.{ℕ, ◌≤◌, Some, None, sym, ◌∙◌, subst, inr, arith}
 use Rattle.fault.specs.Checks.{Passes}
 use Rattle.points.specs.Limits.{top_limit}
-use Rattle.bids.specs.Searches.{limited_to}
+use Rattle.bidding.specs.Searches.{limited_to}
 use Rattle.ledgers.specs.Ledgers.{unshown}
 use Rattle.ledgers.specs.Composing.{composing_checks, OffersIn, BidComposed, RunMarked}
 use Rattle.ledgers.proofs.Offers.{offer_fits}

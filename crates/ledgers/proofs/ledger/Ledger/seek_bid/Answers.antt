@@ -1,5 +1,5 @@
 use Rattle.std.proofs.Common.{ℕ, sym, ◌∙◌}
-use Rattle.bids.specs.Searches.{TermsOf}
+use Rattle.bidding.specs.Searches.{TermsOf}
 use Rattle.ledgers.specs.Ledgers.{view_of}
 use Rattle.ledgers.proofs.ledger.Ledger.seek_bid.Given.{Over}
 use Rattle.ledgers.proofs.ledger.Ledger.seek_bid.Goals as goal

@@ -1,6 +1,6 @@
 // Theorems on the search for a bid.
-ghost use Rattle.bids.specs.Depths.{FloorsAgree};
-ghost use Rattle.bids.specs.Searches.{LimitChangesNothing};
+ghost use Rattle.bidding.specs.Depths.{FloorsAgree};
+ghost use Rattle.bidding.specs.Searches.{LimitChangesNothing};
 
 // The floor by the numbers of a phase is the floor of the market.
 pub fn floors_agree()

@@ -1,7 +1,7 @@
 use Rattle.std.proofs.Common.{◌-◌, ◌≤◌}
-use Rattle.bids.specs.Searches.{limited_to}
-use Rattle.bids.proofs.Finds.{KnowsBelow}
-use Rattle.bids.proofs.search.take_seats.Given as goal
+use Rattle.bidding.specs.Searches.{limited_to}
+use Rattle.bidding.proofs.Finds.{KnowsBelow}
+use Rattle.bidding.proofs.search.take_seats.Given as goal
 
 abbrev pub invariant-loop-seat : goal.invariant-loop-seat
 invariant-loop-seat g l =

@@ -7,8 +7,8 @@ use Rattle.std.specs.Int.{int_max}
 use Rattle.std.proofs.lemmas.Int.{by_lt_z, clamps}
 use Rattle.points.specs.Tables.{Table, Pays, Lawful, Gap}
 use Rattle.points.specs.Nets.{scaled, net}
-use Rattle.bids.specs.declared.sought.Sought.{Sought}
-use Rattle.bids.specs.Searches.{weighed, taken, Seeks}
+use Rattle.bidding.specs.declared.sought.Sought.{Sought}
+use Rattle.bidding.specs.Searches.{weighed, taken, Seeks}
 use Rattle.auction.proofs.Seeks.{Seen, seen_skip, seen_first, seen_better, seen_other, seen_best, seen_second}
 
 -- what is known of s by the seats below k

@@ -5,12 +5,12 @@ use Rattle.points.specs.Tables.{Table}
 use Rattle.points.specs.Limits.{price_limit}
 use Rattle.points.specs.Nets.{scaled, net}
 use Rattle.boards.specs.Faces.{Face}
-use Rattle.bids.specs.declared.terms.Terms.{Terms}
-use Rattle.bids.specs.declared.sought.Sought.{Sought}
-use Rattle.bids.specs.declared.sought.Offer.{Offer}
+use Rattle.bidding.specs.declared.terms.Terms.{Terms}
+use Rattle.bidding.specs.declared.sought.Sought.{Sought}
+use Rattle.bidding.specs.declared.sought.Offer.{Offer}
 use Rattle.auction.specs.Markets.{Market}
 use Rattle.auction.specs.Bids.{BestSeat, SecondValue, BestBid, Hopeless}
-use Rattle.bids.specs.Depths.{floor_of, WithinLimits}
+use Rattle.bidding.specs.Depths.{floor_of, WithinLimits}
 
 -- the terms are these numbers
 pub record HasTerms (n c e h : ℕ) (x : Terms) : Type 0 where

@@ -3,11 +3,11 @@ use Rattle.std.proofs.lemmas.Int.{to_z-of_z}
 use Rattle.points.specs.Tables.{Table}
 use Rattle.points.proofs.Rows.{allowed_below}
 use Rattle.points.proofs.Scales.{worth}
-use Rattle.bids.specs.Searches.{limited_to, Seeks}
-use Rattle.bids.proofs.Composed.{at_shown}
-use Rattle.bids.proofs.Finds.{known_skip, known_more, known_end}
-use Rattle.bids.proofs.search.take_seats.Given.{Over}
-use Rattle.bids.proofs.search.take_seats.Goals as goal
+use Rattle.bidding.specs.Searches.{limited_to, Seeks}
+use Rattle.bidding.proofs.Composed.{at_shown}
+use Rattle.bidding.proofs.Finds.{known_skip, known_more, known_end}
+use Rattle.bidding.proofs.search.take_seats.Given.{Over}
+use Rattle.bidding.proofs.search.take_seats.Goals as goal
 
 below : (g : Over) (c : goal.After-take_seat-found g) → c.in-Some.seat < (g.S.PairSource.table c.args.source.now).size
 below g c =

@@ -1,11 +1,11 @@
 -- The floor by the numbers of a phase: it is the market's, and it lies within range.
 use Rattle.std.proofs.Common.{◌≡◌, ◌+◌, ◌-◌, ◌*◌, ◌≤◌, refl, mul-le-mul, arith}
 use Rattle.points.specs.Tables.{Table}
-use Rattle.bids.specs.declared.terms.Terms.{Terms}
+use Rattle.bidding.specs.declared.terms.Terms.{Terms}
 use Rattle.auction.specs.Markets.{Market}
 use Rattle.auction.specs.Bids.{ceiling, depth, floor}
-use Rattle.bids.specs.Depths.{depth_of, FloorsAgree, ceiling_limit, depth_limit}
-use Rattle.bids.specs.Searches.{terms_floor, TermsOf}
+use Rattle.bidding.specs.Depths.{depth_of, FloorsAgree, ceiling_limit, depth_limit}
+use Rattle.bidding.specs.Searches.{terms_floor, TermsOf}
 
 pub floors_agree : FloorsAgree
 unfolding depth ceiling

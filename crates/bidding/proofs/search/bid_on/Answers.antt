@@ -1,8 +1,8 @@
 use Rattle.std.proofs.Common.{ℕ}
-use Rattle.bids.specs.Searches.{limited_to, SeeksAt, BidsAt}
-use Rattle.bids.proofs.Composed.{composed}
-use Rattle.bids.proofs.search.bid_on.Given.{Over}
-use Rattle.bids.proofs.search.bid_on.Goals as goal
+use Rattle.bidding.specs.Searches.{limited_to, SeeksAt, BidsAt}
+use Rattle.bidding.proofs.Composed.{composed}
+use Rattle.bidding.proofs.search.bid_on.Given.{Over}
+use Rattle.bidding.proofs.search.bid_on.Goals as goal
 
 bids : (g : Over) (c : goal.After-offer g) (q : ℕ → ℕ) → SeeksAt (g.S.PairSource.table c.args.source.now) c.args.terms.now q c.args.run c.args.found → BidsAt (g.S.PairSource.table c.args.source.now) c.args.terms.now q c.args.run c.offer.result
 bids g c q found m of =

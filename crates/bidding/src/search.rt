@@ -1,7 +1,7 @@
 // The search for a run's bid, over every row source and every price board.
 ghost use Rattle.std.specs.Prelude.{◌≡◌, ◌≢◌, None};
 ghost use Rattle.points.specs.Nets.{scaled};
-ghost use Rattle.bids.specs.Searches.{terms_floor, limited_to, ToldWithin, weighed, taken, Seeks, SeeksAt, priced, offered, OffersAt, BidsAt};
+ghost use Rattle.bidding.specs.Searches.{terms_floor, limited_to, ToldWithin, weighed, taken, Seeks, SeeksAt, priced, offered, OffersAt, BidsAt};
 
 use crate::sought::{Offer, Sought};
 use crate::terms::Terms;

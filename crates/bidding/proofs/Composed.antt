@@ -6,18 +6,18 @@ use lib.Signed.{lt_z}
 use Rattle.points.specs.Tables.{Table, Lawful}
 use Rattle.points.specs.Nets.{scaled, net}
 use Rattle.boards.specs.Faces.{Face}
-use Rattle.bids.specs.declared.terms.Terms.{Terms}
-use Rattle.bids.specs.declared.sought.Sought.{Sought}
-use Rattle.bids.specs.declared.sought.Offer.{Offer}
+use Rattle.bidding.specs.declared.terms.Terms.{Terms}
+use Rattle.bidding.specs.declared.sought.Sought.{Sought}
+use Rattle.bidding.specs.declared.sought.Offer.{Offer}
 use Rattle.auction.specs.Markets.{Market}
 use Rattle.auction.specs.Bids.{ceiling, floor, SecondValue}
 use Rattle.auction.specs.Limits.{increment_limit}
-use Rattle.bids.specs.Depths.{ceiling_limit, depth_limit}
-use Rattle.bids.specs.Searches.{TermsOf, terms_floor, limited_to, ShownBehind, ToldWithin, LimitChangesNothing, Seeks, priced, offered, Composes}
+use Rattle.bidding.specs.Depths.{ceiling_limit, depth_limit}
+use Rattle.bidding.specs.Searches.{TermsOf, terms_floor, limited_to, ShownBehind, ToldWithin, LimitChangesNothing, Seeks, priced, offered, Composes}
 use Rattle.auction.proofs.Holders.{none_some}
 use Rattle.auction.proofs.Floors.{under_ceiling}
 use Rattle.auction.proofs.Seeks.{second_low}
-use Rattle.bids.proofs.Deep.{terms_floor_lem, depth_low, ceiling_low}
+use Rattle.bidding.proofs.Deep.{terms_floor_lem, depth_low, ceiling_low}
 
 pub limit_idle : LimitChangesNothing
 limit_idle f behind within i k = omega (arith, behind i k, within k)

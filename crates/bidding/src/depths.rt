@@ -2,8 +2,8 @@
 ghost use Rattle.std.specs.Prelude.{◌≡◌, ◌+◌, ◌-◌, ◌*◌, ◌≤◌, pos, neg_ℤ};
 ghost use Rattle.points.specs.Limits.{size_limit, top_limit};
 ghost use Rattle.auction.specs.Limits.{increment_limit};
-ghost use Rattle.bids.specs.Depths.{depth_of, floor_of, ceiling_limit, points_part_limit, increments_part_limit, depth_limit};
-ghost use Rattle.bids.specs.Searches.{Made};
+ghost use Rattle.bidding.specs.Depths.{depth_of, floor_of, ceiling_limit, points_part_limit, increments_part_limit, depth_limit};
+ghost use Rattle.bidding.specs.Searches.{Made};
 
 use crate::terms::Terms;
 use auction::limits::INCREMENT_LIMIT;

@@ -1,5 +1,5 @@
 use Rattle.std.proofs.Common.{◌*◌, ◌≤◌, ap₂, mul-le-mul, arith}
-use Rattle.bids.proofs.depths.ceiling.Goals as goal
+use Rattle.bidding.proofs.depths.ceiling.Goals as goal
 
 pub returns : goal.returns
 returns c =

@@ -1,5 +1,5 @@
 use Rattle.std.proofs.Common.{◌*◌, ◌≤◌, refl, ap₂, mul-le-mul, arith}
-use Rattle.bids.proofs.depths.increments_part.Goals as goal
+use Rattle.bidding.proofs.depths.increments_part.Goals as goal
 
 pub returns : goal.returns
 returns c =
