@@ -1,13 +1,10 @@
 -- What always holds of the parts of a book, whatever table it is about.
-use Rattle.std.specs.Prelude.{◌≡◌, ℕ, ◌+◌, ◌*◌, ◌<◌, ◌≤◌, Bool, true, false, List, [], ◌∷◌, is_some, Some, None, Option, ◌==◌, slice_index, slice_index_or}
-use Rattle.points.specs.Limits.{size_limit}
-use Rattle.auction.specs.Limits.{increment_limit}
-use Rattle.bidding.specs.Depths.{ceiling_limit}
+use Rattle.std.specs.Prelude.{◌≡◌, ℕ, ◌+◌, ◌<◌, ◌≤◌, Bool, true, false, List, [], ◌∷◌, is_some, Some, None, Option, ◌==◌, slice_index, slice_index_or}
 use Rattle.ledgers.specs.declared.books.Bid.{Bid}
 
--- what a phase can add to the highest price at most, within the limits
+-- what a phase can add to the highest price at most: 256 × (2 × 257 × 1,000,000 + 1,000,000,000)
 abbrev pub phase_rise : ℕ
-phase_rise = size_limit * (2 * ceiling_limit + increment_limit)
+phase_rise = 387584000000
 
 -- how many entries there are
 abbrev pub count : {A : Type 0} → List (Option A) → ℕ

@@ -1,7 +1,5 @@
 // The book of an auction, and the single writes that its events make.
 ghost use Rattle.std.specs.Prelude.{◌≡◌, ℕ, ◌+◌, ◌-◌, ◌<◌, ◌≤◌, IfSome, Some, None};
-ghost use Rattle.points.specs.Limits.{size_limit};
-ghost use Rattle.auction.specs.Limits.{phase_limit, allowance_limit};
 ghost use Rattle.ledgers.specs.Books.{price_at, seat_at, holder_at, bid_at, increment_of, freed, seated_after, blank, placed, marked, landed, dropped, advanced, count_placed, count_landed, count_outbid, count_recalled, count_anew};
 
 use auction::limits::PHASE_LIMIT;
@@ -59,7 +57,7 @@ pub struct Book {
 impl Counts {
     // One bid more is composed.
     pub(crate) fn count_placed(&mut self)
-        requires { self.old.composed ≤ allowance_limit }
+        requires { self.old.composed ≤ 1000000000000 }
         ensures { self.new ≡ count_placed self.old }
     {
         self.composed += 1;
@@ -67,8 +65,8 @@ impl Counts {
 
     // One bid more is accepted, in this phase too.
     pub(crate) fn count_landed(&mut self)
-        requires all { self.old.accepted ≤ allowance_limit }
-        requires phase { self.old.phase_accepted ≤ allowance_limit }
+        requires all { self.old.accepted ≤ 1000000000000 }
+        requires phase { self.old.phase_accepted ≤ 1000000000000 }
         ensures { self.new ≡ count_landed self.old }
     {
         self.accepted += 1;
@@ -77,7 +75,7 @@ impl Counts {
 
     // One bid more is outbid.
     pub(crate) fn count_outbid(&mut self)
-        requires { self.old.outbid ≤ allowance_limit }
+        requires { self.old.outbid ≤ 1000000000000 }
         ensures { self.new ≡ count_outbid self.old }
     {
         self.outbid += 1;
@@ -85,7 +83,7 @@ impl Counts {
 
     // One bid more is recalled.
     pub(crate) fn count_recalled(&mut self)
-        requires { self.old.recalled ≤ allowance_limit }
+        requires { self.old.recalled ≤ 1000000000000 }
         ensures { self.new ≡ count_recalled self.old }
     {
         self.recalled += 1;
@@ -101,7 +99,7 @@ impl Counts {
 
 // The run displaced, if any, holds no seat any more.
 pub(crate) fn free(seats: &mut [Option<u16>; SIZE_LIMIT], displaced: Option<u16>)
-    requires { IfSome displaced (λ r. r < size_limit) }
+    requires { IfSome displaced (λ r. r < 256) }
     ensures { seats.new ≡ freed seats.old displaced }
 {
     if let Some(run) = displaced {
@@ -111,7 +109,7 @@ pub(crate) fn free(seats: &mut [Option<u16>; SIZE_LIMIT], displaced: Option<u16>
 
 // How many runs hold a seat once one more does and the run displaced, if any, does not.
 pub(crate) fn seated_after(seated: usize, displaced: Option<u16>) -> usize
-    requires { seated ≤ size_limit }
+    requires { seated ≤ 256 }
     ensures { result ≡ seated_after seated displaced }
 {
     match displaced {
@@ -123,7 +121,7 @@ pub(crate) fn seated_after(seated: usize, displaced: Option<u16>) -> usize
 impl Book {
     // The price of a seat.
     pub(crate) fn price_at(&self, seat: usize) -> u64
-        requires { seat < size_limit }
+        requires { seat < 256 }
         ensures { result ≡ price_at self.now seat }
     {
         self.prices.prices[seat]
@@ -131,7 +129,7 @@ impl Book {
 
     // The seat that a run holds.
     pub(crate) fn seat_at(&self, run: usize) -> Option<u16>
-        requires { run < size_limit }
+        requires { run < 256 }
         ensures { result ≡ seat_at self.now run }
     {
         self.seats[run]
@@ -139,7 +137,7 @@ impl Book {
 
     // The run that holds a seat.
     pub(crate) fn holder_at(&self, seat: usize) -> Option<u16>
-        requires { seat < size_limit }
+        requires { seat < 256 }
         ensures { result ≡ holder_at self.now seat }
     {
         self.holders[seat]
@@ -147,7 +145,7 @@ impl Book {
 
     // The bid of a run that is out.
     pub(crate) fn bid_at(&self, run: usize) -> Option<Bid>
-        requires { run < size_limit }
+        requires { run < 256 }
         ensures { result ≡ bid_at self.now run }
     {
         self.bids[run]
@@ -156,7 +154,7 @@ impl Book {
     // The increment of the phase.
     pub(crate) fn increment(&self) -> u64
         requires low { 1 ≤ self.now.phase }
-        requires few { self.now.phase ≤ phase_limit }
+        requires few { self.now.phase ≤ 16 }
         ensures { result ≡ increment_of self.now }
     {
         self.conditions.increments[self.phase - 1]
@@ -164,8 +162,8 @@ impl Book {
 
     // A run's bid is out.
     pub(crate) fn place(&mut self, run: usize, bid: Bid)
-        requires run { run < size_limit }
-        requires few { self.old.counts.composed ≤ allowance_limit }
+        requires run { run < 256 }
+        requires few { self.old.counts.composed ≤ 1000000000000 }
         ensures { self.new ≡ placed self.old run bid }
     {
         self.bids[run] = Some(bid);
@@ -180,8 +178,8 @@ impl Book {
 
     // A run's bid is out no more, since it is outbid.
     pub(crate) fn drop_outbid(&mut self, run: usize)
-        requires run { run < size_limit }
-        requires few { self.old.counts.outbid ≤ allowance_limit }
+        requires run { run < 256 }
+        requires few { self.old.counts.outbid ≤ 1000000000000 }
         ensures { self.new ≡ dropped self.old run (count_outbid self.old.counts) }
     {
         self.bids[run] = None;
@@ -190,8 +188,8 @@ impl Book {
 
     // A run's bid is out no more, since it is recalled.
     pub(crate) fn drop_recalled(&mut self, run: usize)
-        requires run { run < size_limit }
-        requires few { self.old.counts.recalled ≤ allowance_limit }
+        requires run { run < 256 }
+        requires few { self.old.counts.recalled ≤ 1000000000000 }
         ensures { self.new ≡ dropped self.old run (count_recalled self.old.counts) }
     {
         self.bids[run] = None;
@@ -200,12 +198,12 @@ impl Book {
 
     // A run's bid is accepted; answers the run that held the seat.
     pub(crate) fn land(&mut self, run: u16, bid: Bid) -> Option<u16>
-        requires run { run < size_limit }
-        requires seat { bid.seat < size_limit }
-        requires seated { self.old.seated ≤ size_limit }
-        requires holder { IfSome (holder_at self.old bid.seat) (λ r. r < size_limit) }
-        requires accepted { self.old.counts.accepted ≤ allowance_limit }
-        requires phase { self.old.counts.phase_accepted ≤ allowance_limit }
+        requires run { run < 256 }
+        requires seat { bid.seat < 256 }
+        requires seated { self.old.seated ≤ 256 }
+        requires holder { IfSome (holder_at self.old bid.seat) (λ r. r < 256) }
+        requires accepted { self.old.counts.accepted ≤ 1000000000000 }
+        requires phase { self.old.counts.phase_accepted ≤ 1000000000000 }
         ensures displaced { result ≡ holder_at self.old bid.seat }
         ensures book { self.new ≡ landed self.old run bid }
     {
@@ -223,7 +221,7 @@ impl Book {
 
     // The next phase begins, and this is the highest price.
     pub(crate) fn advance(&mut self, high: u64)
-        requires { self.old.phase ≤ phase_limit }
+        requires { self.old.phase ≤ 16 }
         ensures { self.new ≡ advanced self.old high }
     {
         self.phase += 1;

@@ -1,8 +1,6 @@
 // Delivering and recalling bids, and the next phase: with their refusals.
 ghost use Rattle.std.specs.Prelude.{◌≡◌, ℕ, ◌+◌, ◌*◌, ◌<◌, ◌≤◌, ◌≢◌, Some, None, MatchResult, nat_le};
 ghost use Rattle.fault.specs.Checks.{Passes, Refuses};
-ghost use Rattle.points.specs.Limits.{size_limit};
-ghost use Rattle.auction.specs.Limits.{phase_limit, increment_limit};
 ghost use Rattle.ledgers.specs.Rules.{phase_rise};
 ghost use Rattle.ledgers.specs.Books.{price_at, bid_at, increment_of};
 ghost use Rattle.auction.specs.Events.{Highest};
@@ -26,7 +24,7 @@ pub enum Delivery {
 // Whether an offer is at least an increment above a price.
 pub(crate) fn is_enough(offer: u64, price: u64, increment: u64) -> bool
     requires low { price ≤ 10000000000000 }
-    requires small { increment ≤ increment_limit }
+    requires small { increment ≤ 1000000000 }
     ensures { result ≡ nat_le (price + increment) offer }
 {
     offer >= price + increment
@@ -44,7 +42,7 @@ impl Book {
     // The highest price.
     pub(crate) fn highest(&self) -> u64
         requires some { 1 ≤ self.now.conditions.size }
-        requires few { self.now.conditions.size ≤ size_limit }
+        requires few { self.now.conditions.size ≤ 256 }
         ensures { Highest self.now.conditions.size (price_at self.now) result }
     {
         let mut high = self.price_at(0);
@@ -81,7 +79,9 @@ impl Ledger {
 
     // Delivers a run's bid, which is used up.
     pub fn deliver(&mut self, run: usize) -> Result<Delivery, Fault>
-        ensures { MatchResult result (λ d. Passes (deliver_checks self.old.book run) × Delivers self.old.book self.new.book run d) (λ f. Refuses (deliver_checks self.old.book run) f × (self.new.book ≡ self.old.book)) }
+        ensures { MatchResult result
+            (λ d. Passes (deliver_checks self.old.book run) × Delivers self.old.book self.new.book run d)
+            (λ f. Refuses (deliver_checks self.old.book run) f × (self.new.book ≡ self.old.book)) }
     {
         let bid = self.check_deliver(run)?;
         Ok(self.settle_bid(run, bid))
@@ -98,7 +98,9 @@ impl Ledger {
 
     // Drops a run's bid.
     pub fn recall(&mut self, run: usize) -> Result<(), Fault>
-        ensures { MatchResult result (λ _. Passes (recall_checks self.old.book run) × Recalls self.old.book self.new.book run) (λ f. Refuses (recall_checks self.old.book run) f × (self.new.book ≡ self.old.book)) }
+        ensures { MatchResult result
+            (λ _. Passes (recall_checks self.old.book run) × Recalls self.old.book self.new.book run)
+            (λ f. Refuses (recall_checks self.old.book run) f × (self.new.book ≡ self.old.book)) }
     {
         let bid = self.check_recall(run)?;
         self.drop_recalled(run, bid);
@@ -116,7 +118,9 @@ impl Ledger {
 
     // Begins the next phase, when every run holds a seat.
     pub fn advance(&mut self) -> Result<(), Fault>
-        ensures { MatchResult result (λ _. Passes (advance_checks self.old.book) × Advances self.old.book self.new.book) (λ f. Refuses (advance_checks self.old.book) f × (self.new.book ≡ self.old.book)) }
+        ensures { MatchResult result
+            (λ _. Passes (advance_checks self.old.book) × Advances self.old.book self.new.book)
+            (λ f. Refuses (advance_checks self.old.book) f × (self.new.book ≡ self.old.book)) }
     {
         self.check_advance()?;
         self.begin_phase();

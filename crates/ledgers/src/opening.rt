@@ -2,7 +2,7 @@
 ghost use Rattle.std.specs.Prelude.{◌≡◌, ◌+◌, ◌-◌, ◌<◌, ◌≤◌, length, MatchResult, nat_lt, slice_index};
 ghost use Rattle.fault.specs.Checks.{Passes, Refuses};
 ghost use Rattle.points.specs.Limits.{size_limit};
-ghost use Rattle.auction.specs.Limits.{phase_limit, increment_limit, allowance_limit};
+ghost use Rattle.auction.specs.Limits.{increment_limit, allowance_limit};
 ghost use Rattle.ledgers.specs.Books.{blank};
 ghost use Rattle.ledgers.specs.Ledgers.{Starts};
 ghost use Rattle.ledgers.specs.Opening.{Copied};
@@ -41,7 +41,9 @@ fn falls(ladder: &[u64], at: usize) -> bool
 
 // Every increment falls to the next.
 fn check_falls(ladder: &[u64]) -> Result<(), Fault>
-    ensures { MatchResult result (λ _. Passes (fall_checks ladder.now (length ladder.now - 1))) (λ f. Refuses (fall_checks ladder.now (length ladder.now - 1)) f) }
+    ensures { MatchResult result
+        (λ _. Passes (fall_checks ladder.now (length ladder.now - 1)))
+        (λ f. Refuses (fall_checks ladder.now (length ladder.now - 1)) f) }
 {
     for at in 0..ladder.len().saturating_sub(1) {
         start_fault(Cause::Ladder).unless(falls(ladder, at))?;
@@ -72,7 +74,7 @@ fn check_start(size: usize, ladder: &[u64], allowance: u64) -> Result<(), Fault>
 
 // The increments, and zeros behind them.
 fn padded(ladder: &[u64]) -> [u64; PHASE_LIMIT]
-    requires { length ladder.now ≤ phase_limit }
+    requires { length ladder.now ≤ 16 }
     ensures { Copied ladder.now result }
 {
     let mut increments = [0; PHASE_LIMIT];
@@ -85,10 +87,10 @@ fn padded(ladder: &[u64]) -> [u64; PHASE_LIMIT]
 // The ledger of an auction that starts under these conditions.
 fn begin(conditions: Conditions) -> Ledger
     requires sized { (1 ≤ conditions.size) × (conditions.size ≤ size_limit) }
-    requires phased { (1 ≤ conditions.phases) × (conditions.phases ≤ phase_limit) }
+    requires phased { (1 ≤ conditions.phases) × (conditions.phases ≤ 16) }
     requires small { UpTo increment_limit conditions.increments }
     requires allowance { conditions.allowance ≤ allowance_limit }
-    requires long { length conditions.increments ≡ phase_limit }
+    requires long { length conditions.increments ≡ 16 }
     ensures { result.book ≡ blank conditions }
 {
     let book = Book::new(conditions);
@@ -98,7 +100,9 @@ fn begin(conditions: Conditions) -> Ledger
 impl Ledger {
     // Starts an auction of so many runs and seats, with this ladder and this allowance.
     pub fn open(size: usize, ladder: &[u64], allowance: u64) -> Result<Ledger, Fault>
-        ensures { MatchResult result (λ l. Passes (start_checks size ladder.now allowance) × Starts size ladder.now allowance l) (λ f. Refuses (start_checks size ladder.now allowance) f) }
+        ensures { MatchResult result
+            (λ l. Passes (start_checks size ladder.now allowance) × Starts size ladder.now allowance l)
+            (λ f. Refuses (start_checks size ladder.now allowance) f) }
     {
         check_start(size, ladder, allowance)?;
         let increments = padded(ladder);

@@ -1,6 +1,5 @@
 // The events of an auction in its ledger: bids placed, delivered and recalled, the mark, and the next phase.
 ghost use Rattle.std.specs.Prelude.{◌≡◌, ℕ, ◌+◌, ◌*◌, ◌<◌, ◌≤◌, Some, None};
-ghost use Rattle.points.specs.Limits.{size_limit};
 ghost use Rattle.ledgers.specs.Rules.{phase_rise};
 ghost use Rattle.ledgers.specs.Books.{price_at, increment_of};
 ghost use Rattle.ledgers.specs.Ledgers.{size_of, Ready, Deliverable, Composes, Marks, Lands, Outbids, Recalls, Advances};
@@ -19,7 +18,7 @@ pub struct Landing {
 
 // A run or a seat in two bytes.
 pub(crate) fn narrow(number: usize) -> u16
-    requires { number < size_limit }
+    requires { number < 256 }
     ensures { result ≡ number }
 {
     number as u16

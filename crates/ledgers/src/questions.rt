@@ -1,7 +1,6 @@
 // Questions to the ledger of an auction.
 ghost use Rattle.std.specs.Prelude.{◌≡◌, ◌≤◌, MatchResult};
 ghost use Rattle.fault.specs.Checks.{Passes, Refuses};
-ghost use Rattle.points.specs.Limits.{size_limit};
 ghost use Rattle.ledgers.specs.Books.{price_at, seat_at, holder_at, increment_of};
 ghost use Rattle.ledgers.specs.Ledgers.{LowestFree};
 ghost use Rattle.ledgers.specs.Refusals.{run_checks, seat_checks};
@@ -39,7 +38,7 @@ impl Ledger {
     // How many runs there are, and as many seats.
     pub fn size(&self) -> usize
         ensures is { result ≡ self.now.book.conditions.size }
-        ensures few { (1 ≤ result) × (result ≤ size_limit) }
+        ensures few { (1 ≤ result) × (result ≤ 256) }
     {
         self.book.conditions.size
     }
