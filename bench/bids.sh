@@ -9,11 +9,10 @@ rounds=${1:-20}
 repeats=${2:-40}
 percent=${3:-10}
 cxx=${CXX:-g++}
-ours=$here/target/bin/bench_bids
 work=$(mktemp -d)
 trap 'rm -rf "$work"' EXIT
 
-(cd "$here" && rt check bench_bids) >"$work/log" 2>&1 || { cat "$work/log" >&2; exit 1; }
+ours=$("$here/bench/build.sh" bench_bids "$here/examples/example.sheet" 4 1)
 "$cxx" -O3 -march=x86-64 -o "$work/bids" "$here/bench/bids.cpp"
 python3 "$here/bench/make_sheet.py" "$work/sheet" "$work/certificate" 256 "$percent"
 

@@ -9,17 +9,10 @@ rounds=${1:-40}
 repeats=${2:-200}
 percent=${3:-10}
 cc=${CC:-gcc}
-ours=$here/target/bin/bench_checker
 work=$(mktemp -d)
 trap 'rm -rf "$work"' EXIT
 
-if [ ! -x "$ours" ]; then
-    echo "checker.sh: proving and building bench_checker, which takes a few minutes" >&2
-    (cd "$here" && rt check bench_checker) >"$work/log" 2>&1 || { cat "$work/log" >&2; exit 1; }
-fi
-if [ -n "$(find "$here/crates" "$here/crates.txt" -newer "$ours" -print -quit)" ]; then
-    echo "checker.sh: sources are newer than target/bin/bench_checker; rt check bench_checker builds it anew" >&2
-fi
+ours=$("$here/bench/build.sh" bench_checker "$here/examples/example.sheet" "$here/examples/example.certificate" 1)
 "$cc" -O3 -march=x86-64 -o "$work/checker" "$here/bench/checker.c"
 python3 "$here/bench/make_sheet.py" "$work/sheet" "$work/certificate" 256 "$percent"
 
