@@ -1,7 +1,7 @@
 // The common board: what is shown is always what was told.
 ghost use Rattle.boards.specs.Faces.{Cleared};
 ghost use Rattle.boards.specs.Commons.{common_face, common_sound, CommonDoes};
-ghost use Rattle.std.proofs.Common.{rules, arith};
+ghost use Rattle.std.proofs.Common.{rules};
 
 use crate::board::PriceBoard;
 use crate::rows::{PriceRow, size_after_clear};
@@ -26,13 +26,13 @@ impl PriceBoard for CommonBoard {
 
     ghost step = { CommonDoes };
 
-    ghost few = { first_of (Prim.search rules, Prim.grind (arith, Self.row.coded.inj)) };
+    ghost few = { Prim.search rules };
 
-    ghost behind = { first_of (Prim.search rules, Prim.grind (arith, Self.row.coded.inj)) };
+    ghost behind = { Prim.search rules };
 
-    ghost untold = { first_of (Prim.search rules, Prim.grind (arith, Self.row.coded.inj)) };
+    ghost untold = { Prim.search rules };
 
-    ghost unshown = { first_of (Prim.search rules, Prim.grind (arith, Self.row.coded.inj)) };
+    ghost unshown = { Prim.search rules };
 
     fn clear(&mut self, n: usize) {
         self.told = PriceRow::new();

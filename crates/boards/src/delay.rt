@@ -6,7 +6,7 @@ ghost use Rattle.boards.specs.Faces.{Takes};
 ghost use Rattle.boards.specs.Tellings.{newest, Passed};
 ghost use Rattle.boards.specs.Layers.{due, delay_face, DelaySound, DelayDoes, DelayKeeps, layer_of, over_face};
 ghost use Rattle.boards.specs.LayersLemmas.{layer_behind};
-ghost use Rattle.std.proofs.Common.{rules, arith};
+ghost use Rattle.std.proofs.Common.{rules};
 
 use crate::board::PriceBoard;
 use crate::states::Delay;
@@ -106,13 +106,13 @@ impl<B: PriceBoard> PriceBoard for Delay<B> {
 
     ghost step = { DelayDoes B.PriceBoard };
 
-    ghost few = { first_of (Prim.search rules, Prim.grind (arith, Self.row.coded.inj)) };
+    ghost few = { Prim.search rules };
 
     ghost behind = { λ d s. layer_behind (over_face B.PriceBoard.face (layer_of d)) s.1 (B.PriceBoard.behind d.below s.0) (B.PriceBoard.unshown d.below) };
 
-    ghost untold = { first_of (Prim.search rules, Prim.grind (arith, Self.row.coded.inj)) };
+    ghost untold = { Prim.search rules };
 
-    ghost unshown = { first_of (Prim.search rules, Prim.grind (arith, Self.row.coded.inj)) };
+    ghost unshown = { Prim.search rules };
 
     fn clear(&mut self, n: usize)
         ensures own { DelayDoes B.PriceBoard (clears n) self.old self.new }

@@ -4,7 +4,7 @@ ghost use Rattle.boards.specs.Limits.{site_count};
 ghost use Rattle.boards.specs.Faces.{Cleared, Settled, Takes, Refuses};
 ghost use Rattle.boards.specs.Copies.{copy_at, marked, NoSpan};
 ghost use Rattle.boards.specs.Sites.{site_face, site_sound, SiteTold, SiteCarried, SiteDoes};
-ghost use Rattle.std.proofs.Common.{rules, arith};
+ghost use Rattle.std.proofs.Common.{rules};
 
 use crate::board::PriceBoard;
 use crate::copies::{SITES, SiteCopy, bring_all_up, bring_one_up, mark_all};
@@ -33,13 +33,13 @@ impl PriceBoard for SiteBoard {
 
     ghost step = { λ c a b. SiteDoes c (site_face a) (site_face b) };
 
-    ghost few = { first_of (Prim.search rules, Prim.grind (arith, Self.row.coded.inj)) };
+    ghost few = { Prim.search rules };
 
-    ghost behind = { first_of (Prim.search rules, Prim.grind (arith, Self.row.coded.inj)) };
+    ghost behind = { Prim.search rules };
 
-    ghost untold = { first_of (Prim.search rules, Prim.grind (arith, Self.row.coded.inj)) };
+    ghost untold = { Prim.search rules };
 
-    ghost unshown = { first_of (Prim.search rules, Prim.grind (arith, Self.row.coded.inj)) };
+    ghost unshown = { Prim.search rules };
 
     fn clear(&mut self, n: usize)
         ensures does { Cleared n (site_face self.new) }

@@ -5,7 +5,7 @@ ghost use Rattle.points.specs.Limits.{size_limit};
 ghost use Rattle.sheets.specs.Headers.{size_in, sheet_top};
 ghost use Rattle.sheets.specs.Dense.{row_at, cell, dense_frame, dense_cells, dense_checks, dense_table};
 ghost use Rattle.sheets.specs.Cells.{dense_lawful};
-ghost use Rattle.std.proofs.Common.{rules, arith};
+ghost use Rattle.std.proofs.Common.{rules};
 
 use crate::checks::{ABSENT, check_header, check_words};
 use crate::fields::{no_bytes, sheet_fault, u32_at};
@@ -120,9 +120,9 @@ impl PairSource for DenseSheet {
 
     ghost table = { λ s. dense_table s.bytes.items };
 
-    ghost limits = { first_of (Prim.search rules, Prim.grind (arith, Self.row.coded.inj)) };
+    ghost limits = { Prim.search rules };
 
-    ghost topped = { first_of (Prim.search rules, Prim.grind (arith, Self.row.coded.inj)) };
+    ghost topped = { Prim.search rules };
 
     ghost lawful = { λ s. dense_lawful s.bytes.items s.keeps };
 

@@ -7,7 +7,7 @@ ghost use Rattle.sheets.specs.Headers.{size_in, spans_in, sheet_top};
 ghost use Rattle.sheets.specs.Sparse.{span_limit, points_at, sparse_checks, point_word, sparse_table};
 ghost use Rattle.sheets.specs.Seeks.{point_by};
 ghost use Rattle.sheets.specs.Ranges.{sparse_lawful};
-ghost use Rattle.std.proofs.Common.{rules, arith};
+ghost use Rattle.std.proofs.Common.{rules};
 
 use crate::fields::{no_bytes, u32_at};
 use crate::rules::check_sparse;
@@ -116,9 +116,9 @@ impl PairSource for SparseSheet {
 
     ghost table = { λ s. sparse_table s.bytes.items };
 
-    ghost limits = { first_of (Prim.search rules, Prim.grind (arith, Self.row.coded.inj)) };
+    ghost limits = { Prim.search rules };
 
-    ghost topped = { first_of (Prim.search rules, Prim.grind (arith, Self.row.coded.inj)) };
+    ghost topped = { Prim.search rules };
 
     ghost lawful = { λ s. sparse_lawful s.bytes.items s.keeps };
 
