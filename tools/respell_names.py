@@ -13,7 +13,6 @@ import re
 import sys
 
 SIGNATURE = re.compile(r"^(\s*)((?:abbrev |unfoldable |mutual |pub )*)((?:record |data )?)([^\s:(){}=.;,«»]+)\s*((?:[({].*?[)}]\s*)*):\s+(.*)$")
-FIELDS = re.compile(r"^\s+([^\s:(){}=.;,«»]+)(\s+[^\s:(){}=.;,«»]+)*\s*:\s")
 USE = re.compile(r"^\s*(?:pub )?(?:ghost )?use ([\w.'+-]+)\.\{([^}]*)\}")
 TOKEN = re.compile(r"[\w'\-]+")
 # lemmas that would get the name of a definition
