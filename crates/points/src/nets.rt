@@ -16,7 +16,7 @@ pub fn scale(size: u16) -> i64
 pub fn scaled_points(size: u16, points: i32) -> i64
     ensures { result ≡ scaled size points }
 {
-    times(scale(size), size, points)
+    scale(size) * i64::from(points)
 }
 
 // A price, or the limit where it is over that.
@@ -30,21 +30,5 @@ pub fn limited(price: u64) -> u64
 pub fn net_points(size: u16, points: i32, price: u64) -> i64
     ensures { result ≡ net size points (min price price_limit) }
 {
-    net_within(size, points, limited(price))
-}
-
-// The net at a price within the limit.
-pub(crate) fn net_within(size: u16, points: i32, price: u64) -> i64
-    requires { price ≤ price_limit }
-    ensures { result ≡ net size points price }
-{
-    scaled_points(size, points) - price as i64
-}
-
-// Points times the scale of a size.
-pub(crate) fn times(factor: i64, size: u16, points: i32) -> i64
-    requires { factor ≡ pos (size + 1) }
-    ensures { result ≡ scaled size points }
-{
-    factor * i64::from(points)
+    scaled_points(size, points) - limited(price) as i64
 }

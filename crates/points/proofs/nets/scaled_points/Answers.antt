@@ -2,9 +2,9 @@ use Rattle.std.proofs.Common.{◌≡◌, ◌+◌, pos, arith, w64, to_z, of_z}
 use borrow.Author.Differences.{ints}
 use Rattle.points.specs.Nets.{scaled}
 use Rattle.points.proofs.Scales.{scaled_fits}
-use Rattle.points.proofs.nets.times.Goals as goal
+use Rattle.points.proofs.nets.scaled_points.Goals as goal
 
-by : (c : goal.After-from) → to_z w64 (of_z w64 c.args.factor) ≡ pos (c.args.size + 1)
+by : (c : goal.After-from) → to_z w64 (of_z w64 c.scale.result) ≡ pos (c.args.size + 1)
 by c = omega (arith, ints)
 
 of : (c : goal.After-from) → to_z w64 (of_z w64 c.from.result) ≡ c.args.points
