@@ -4,7 +4,7 @@ ghost use Rattle.fault.specs.Checks.{Passes, Refuses};
 ghost use Rattle.points.specs.Plans.{total};
 ghost use Rattle.certificates.specs.Certificates.{seat_in, certificate_checks, Accepted, Refused};
 
-use crate::contents::check_contents;
+use crate::contents::Priced;
 use crate::plans::check_plan;
 use crate::prices::{check_prices, check_size};
 use fault::faults::Fault;
@@ -32,6 +32,11 @@ pub(crate) fn check_rules<S: RowSource>(
     let size = check_size(source.size(), seats.len(), prices.len())?;
     let sum = check_plan(source, seats)?;
     check_prices(prices)?;
-    check_contents(source, size, seats, prices)?;
+    let priced = Priced {
+        source,
+        size,
+        prices,
+    };
+    priced.check_contents(seats)?;
     Ok(sum)
 }

@@ -39,10 +39,9 @@ pub(crate) fn allowed_points<S: RowSource>(
         (λ p. (S.PairSource.table source.now).points run seat ≡ Some p)
         (λ f. ((S.PairSource.table source.now).points run seat ≡ None) × (f ≡ checker_fault NotAllowed (Some run) (Some seat))) }
 {
-    match source.points(run, seat) {
-        Some(points) => Ok(points),
-        None => Err(checker_fault(Cause::NotAllowed, Some(run), Some(seat))),
-    }
+    source
+        .points(run, seat)
+        .ok_or(checker_fault(Cause::NotAllowed, Some(run), Some(seat)))
 }
 
 // The seat of one run: below the size, allowed, and not that of a lower run; answers its points.
@@ -84,10 +83,10 @@ pub(crate) fn check_plan<S: RowSource>(source: &S, seats: &[u16]) -> Result<i64,
 {
     let mut marks = [false; SIZE_LIMIT];
     let mut sum: i64 = 0;
-    for run in 0..seats.len() {
+    for (run, seat) in seats.iter().enumerate() {
         let points = check_run(source, seats, run, &marks)?;
         sum = add_points(sum, points);
-        mark(&mut marks, usize::from(seats[run]));
+        mark(&mut marks, usize::from(*seat));
     }
     Ok(sum)
 }

@@ -30,8 +30,8 @@ pub(crate) fn check_prices(prices: &[u64]) -> Result<(), Fault>
         (λ _. Passes (price_checks (length prices.now) prices.now))
         (λ f. Refuses (price_checks (length prices.now) prices.now) f) }
 {
-    for seat in 0..prices.len() {
-        checker_fault(Cause::PriceTooHigh, None, Some(seat)).unless(prices[seat] <= PRICE_LIMIT)?;
+    for (seat, price) in prices.iter().enumerate() {
+        checker_fault(Cause::PriceTooHigh, None, Some(seat)).unless(*price <= PRICE_LIMIT)?;
     }
     Ok(())
 }
