@@ -28,7 +28,7 @@ impl<'a, S: RowSource> Priced<'a, S> {
         requires { seat < length self.now.prices.now }
         ensures { result ≡ net (S.PairSource.table self.now.source.now).size points (price_in self.now.prices.now seat) }
     {
-        // not `net_points`: to limit each price anew makes a check take 236 us in place of 138 us
+        // not `net_points`: with each price limited anew, a check of 256 runs takes 138 us in place of 120
         scaled_points(self.size, points) - self.prices[seat] as i64
     }
 
@@ -52,7 +52,9 @@ impl<'a, S: RowSource> Priced<'a, S> {
         }
     }
 
-    // Every allowed seat of a run that nets this on its own, from the lowest on.
+    // Every allowed seat of a run that nets this on its own, from the lowest on. A function of its own even when built,
+    // since its loop is then faster.
+    #[inline(never)]
     pub(crate) fn check_seats(&self, run: usize, held: i64) -> Result<(), Fault>
         ensures { MatchResult result
             (λ _. Passes (seat_checks (S.PairSource.table self.now.source.now) self.now.prices.now run held (S.PairSource.table self.now.source.now).size))

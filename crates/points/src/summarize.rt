@@ -9,29 +9,29 @@ use crate::summaries::{Range, Summary};
 pub(crate) fn stretch(range: Option<Range>, points: i32) -> Range
     ensures { result ≡ stretched range points }
 {
-    match range {
-        None => Range {
+    range.map_or(
+        Range {
             least: points,
             greatest: points,
         },
-        Some(old) => Range {
+        |old| Range {
             least: old.least.min(points),
             greatest: old.greatest.max(points),
         },
-    }
+    )
 }
 
 // One pair more, if it is allowed.
 pub(crate) fn note(seen: Summary, points: Option<i32>) -> Summary
     ensures { result ≡ noted seen points }
 {
-    match points {
-        None => seen,
-        Some(points) => Summary {
+    points.map_or(
+        seen,
+        |points| Summary {
             allowed: seen.allowed.saturating_add(1),
             range: Some(stretch(seen.range, points)),
         },
-    }
+    )
 }
 
 // The allowed seats of one run more.
