@@ -1,9 +1,11 @@
 -- The allowed seats of a run as a list.
-use Rattle.std.proofs.Common.{◌≡◌, ℕ, zero, suc, ◌+◌, ◌-◌, ◌<◌, ◌≤◌, Bool, cond, List, [], ◌∷◌, ℤ, is_some, Some, None, Option, refl, sym, ap, ◌∙◌, subst, inl, inr, arith, zero-add}
+use Rattle.std.proofs.Common.{◌≡◌, ℕ, zero, suc, ◌+◌, ◌-◌, ◌<◌, ◌≤◌, Bool, cond, List, [], ◌∷◌, ℤ, is_some, Some, None, Option, refl, sym, ap, ◌∙◌, subst, inl, inr, arith, zero-add, add-one}
 use Rattle.std.proofs.lemmas.Bool.{cases_order}
-use Rattle.std.specs.List.{filter, range_with_len}
+use Rattle.std.specs.List.{filter, range_with_len, fold}
 use Rattle.points.specs.Tables.{Table, Allowed, Lawful, Gap, Next}
 use Rattle.points.specs.Seats.{seats_from}
+use Rattle.points.specs.declared.summaries.Summary.{Summary}
+use Rattle.points.specs.Summaries.{noted, row_noted}
 use Rattle.points.proofs.Rows.{allowed_below}
 
 abbrev first_of : List ℕ → ℕ
@@ -96,3 +98,22 @@ module _ (t : Table) (i : ℕ) where
 
   pub seats_none : (from : ℕ) → seats_from t i from ≡ [] → Gap t i from t.size
   seats_none from e j a b = lacks from (t.size - from) e j a (omega arith)
+
+  -- to note the allowed seats one after the other is to note every seat
+  noted_among : (s : Summary) (from d : ℕ) → fold (λ u k. noted u (t.points i k)) (row_noted t i s from) (among from d) ≡ row_noted t i s (from + d)
+  noted_among s from zero = ap (row_noted t i s) (omega arith)
+  noted_among s from (suc d) = go (noted_among s (from + 1) d) (t.points i from) refl
+    where
+      go : fold (λ u k. noted u (t.points i k)) (row_noted t i s (from + 1)) (among (from + 1) d) ≡ row_noted t i s (from + 1 + d) → (o : Option ℤ) → t.points i from ≡ o → fold (λ u k. noted u (t.points i k)) (row_noted t i s from) (among from (suc d)) ≡ row_noted t i s (from + suc d)
+      go more None n =
+          let h : Summary → ℕ → Summary = λ u k. noted u (t.points i k) in
+          let same : row_noted t i s from ≡ row_noted t i s (from + 1) = sym (ap (row_noted t i s) (add-one from) ∙ ap (noted (row_noted t i s from)) n) in
+          let far : from + 1 + d ≡ from + suc d = omega arith in
+          ap (fold h (row_noted t i s from)) (among_none from d n) ∙ ap (λ (u : Summary). fold h u (among (from + 1) d)) same ∙ more ∙ ap (row_noted t i s) far
+      go more (Some p) n =
+          let h : Summary → ℕ → Summary = λ u k. noted u (t.points i k) in
+          let far : from + 1 + d ≡ from + suc d = omega arith in
+          ap (fold h (row_noted t i s from)) (among_some from d (ap is_some n)) ∙ ap (λ (u : Summary). fold h u (among (from + 1) d)) (sym (ap (row_noted t i s) (add-one from))) ∙ more ∙ ap (row_noted t i s) far
+
+  pub noted_seats : (s : Summary) → fold (λ u k. noted u (t.points i k)) s (seats_from t i 0) ≡ row_noted t i s t.size
+  noted_seats s = let all : 0 + (t.size - 0) ≡ t.size = omega arith in noted_among s 0 (t.size - 0) ∙ ap (row_noted t i s) all

@@ -1,6 +1,8 @@
 // Summing up any row source.
 ghost use Rattle.std.specs.Prelude.{◌≡◌};
-ghost use Rattle.points.specs.Summaries.{stretched, noted, row_noted, summary_of};
+ghost use Rattle.std.specs.List.{fold};
+ghost use Rattle.points.specs.Seats.{seats_from};
+ghost use Rattle.points.specs.Summaries.{stretched, noted, summary_of};
 
 use crate::sources::{PairSource, RowSource};
 use crate::summaries::{Range, Summary};
@@ -36,13 +38,11 @@ pub(crate) fn note(seen: Summary, points: Option<i32>) -> Summary
 
 // The allowed seats of one run more.
 pub(crate) fn note_row<S: RowSource>(source: &S, run: usize, before: Summary) -> Summary
-    ensures { result ≡ row_noted (S.PairSource.table source.now) run before (S.PairSource.table source.now).size }
+    ensures { result ≡ fold (λ s k. noted s ((S.PairSource.table source.now).points run k)) before (seats_from (S.PairSource.table source.now) run 0) }
 {
-    let mut seen = before;
-    for seat in source.seats(run) {
-        seen = note(seen, source.points(run, seat));
-    }
-    seen
+    source
+        .seats(run)
+        .fold(before, |seen, seat| note(seen, source.points(run, seat)))
 }
 
 // What a source comes to.
@@ -53,6 +53,7 @@ pub fn summarize<S: RowSource>(source: &S) -> Summary
         allowed: 0,
         range: None,
     };
+    // not a `fold`: no rule leads from a fold over the runs to the recursion that the clause states
     for run in 0..source.size() {
         seen = note_row(source, run, seen);
     }
