@@ -19,7 +19,8 @@ pub fn check<S: RowSource>(source: &S, seats: &[u16], prices: &[u64]) -> Result<
     check_rules(source, seats, prices)
 }
 
-// Every rule of a certificate, in order.
+// Every rule of a certificate, in order. Apart from `check`, so that what its exits show is turned once, and not five
+// times.
 pub(crate) fn check_rules<S: RowSource>(
     source: &S,
     seats: &[u16],

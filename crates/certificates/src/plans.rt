@@ -81,6 +81,7 @@ pub(crate) fn check_plan<S: RowSource>(source: &S, seats: &[u16]) -> Result<i64,
         (λ a. Passes (plan_checks (S.PairSource.table source.now) seats.now) × (a ≡ total (S.PairSource.table source.now) (seat_in seats.now)))
         (λ f. Refuses (plan_checks (S.PairSource.table source.now) seats.now) f) }
 {
+    // an array of the greatest size: a check allocates nothing
     let mut marks = [false; SIZE_LIMIT];
     let mut sum: i64 = 0;
     for (run, seat) in seats.iter().enumerate() {
