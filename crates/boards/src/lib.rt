@@ -5,6 +5,7 @@ pub mod clients;
 pub mod common;
 pub mod copies;
 pub mod delay;
+pub(crate) mod lists;
 pub mod rows;
 pub mod site;
 pub mod states;

@@ -7,23 +7,27 @@ use crate::copies::{SITES, SiteCopy};
 use crate::rows::PriceRow;
 use crate::tellings::Telling;
 
+// The told prices of a board, and how many of its row's seats are seats of the board.
+#[derive(Clone, Copy)]
+pub(crate) struct PriceList {
+    pub(crate) size: usize,
+    pub(crate) row: PriceRow,
+    ghost few: { size ≤ seat_limit },
+}
+
 // A board that shows every run what it was told.
 #[derive(Drop)]
 pub struct CommonBoard {
-    pub(crate) size: usize,
-    pub(crate) told: PriceRow,
-    ghost few: { size ≤ seat_limit },
+    pub(crate) told: PriceList,
 }
 
 // A board of eight sites, each with a copy of the told prices that only a carry or a settle brings up.
 #[derive(Drop)]
 pub struct SiteBoard {
-    pub(crate) size: usize,
-    pub(crate) told: PriceRow,
+    pub(crate) told: PriceList,
     pub(crate) copies: [SiteCopy; SITES],
-    ghost few: { size ≤ seat_limit },
     ghost short: { Short copies },
-    ghost level: { LevelOutside told copies },
+    ghost level: { LevelOutside told.row copies },
 }
 
 // A board, and the tellings held back from it, the oldest first.
