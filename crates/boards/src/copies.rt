@@ -56,8 +56,8 @@ pub(crate) fn mark_all(copies: &mut [SiteCopy; SITES], seat: usize)
     requires { seat < seat_limit }
     ensures { (c : ℕ) → c < site_count → copy_at copies.new c ≡ marked (copy_at copies.old c) seat }
 {
-    for c in 0..SITES {
-        copies[c].mark(seat);
+    for copy in copies {
+        copy.mark(seat);
     }
 }
 
@@ -76,7 +76,7 @@ pub(crate) fn bring_all_up(copies: &mut [SiteCopy; SITES], told: &PriceRow)
     requires { Short copies.old }
     ensures { (c : ℕ) → c < site_count → BroughtUp told.now (copy_at copies.old c) (copy_at copies.new c) }
 {
-    for c in 0..SITES {
-        copies[c].bring_up(told);
+    for copy in copies {
+        copy.bring_up(told);
     }
 }
