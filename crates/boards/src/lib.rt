@@ -8,6 +8,7 @@ pub mod delay;
 pub(crate) mod lists;
 pub mod rows;
 pub mod site;
+pub mod spans;
 pub mod states;
 pub mod tellings;
 pub mod theorems;

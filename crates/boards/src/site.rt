@@ -2,7 +2,7 @@
 ghost use Rattle.std.specs.Prelude.{◌≡◌, ℕ, ◌%◌, ◌<◌, ◌≢◌};
 ghost use Rattle.boards.specs.Limits.{site_count};
 ghost use Rattle.boards.specs.Faces.{Cleared, Settled, Takes, Refuses};
-ghost use Rattle.boards.specs.Copies.{copy_at, marked, NoSpan};
+ghost use Rattle.boards.specs.Copies.{copy_at, Marked, NoSpan};
 ghost use Rattle.boards.specs.Sites.{site_face, site_sound, SiteTold, SiteCarried, SiteDoes};
 ghost use Rattle.std.proofs.Common.{rules};
 
@@ -52,7 +52,7 @@ impl PriceBoard for SiteBoard {
     fn tell(&mut self, seat: usize, x: u64)
         ensures safe { site_sound self.old → site_sound self.new }
         ensures own { SiteTold (site_face self.old) (site_face self.new) seat x }
-        ensures noted { Takes (site_face self.old) seat x → (c : ℕ) → c < site_count → copy_at self.new.copies c ≡ marked (copy_at self.old.copies c) seat }
+        ensures noted { Takes (site_face self.old) seat x → (c : ℕ) → c < site_count → Marked seat (copy_at self.old.copies c) (copy_at self.new.copies c) }
         ensures refused { Refuses (site_face self.old) seat x → self.new.copies ≡ self.old.copies }
     {
         if self.told.tell(seat, x) {

@@ -1,7 +1,7 @@
 // The states of the boards.
 ghost use Rattle.std.specs.Prelude.{◌≤◌, vec_len, vec_capacity};
 ghost use Rattle.boards.specs.Limits.{seat_limit, held_limit};
-ghost use Rattle.boards.specs.Copies.{Short, LevelOutside};
+ghost use Rattle.boards.specs.Copies.{LevelOutside};
 
 use crate::copies::{SITES, SiteCopy};
 use crate::rows::PriceRow;
@@ -26,7 +26,6 @@ pub struct CommonBoard {
 pub struct SiteBoard {
     pub(crate) told: PriceList,
     pub(crate) copies: [SiteCopy; SITES],
-    ghost short: { Short copies },
     ghost level: { LevelOutside told.row copies },
 }
 
