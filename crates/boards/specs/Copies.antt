@@ -10,19 +10,19 @@ use Rattle.boards.specs.Rows.{at}
 abbrev pub copy_at : List SiteCopy → ℕ → SiteCopy
 copy_at copies c = slice_index_or copies c (record { row = record { prices = [] }; behind = None })
 
--- a seat of a span, where there is one
-abbrev pub Within : Option Span → ℕ → Type 0
-Within None k = ⊥
-Within (Some s) k = (s.from ≤ k) × (k < s.to)
+-- the span holds seat k
+abbrev pub Covers : Option Span → ℕ → Type 0
+Covers None k = ⊥
+Covers (Some s) k = (s.from ≤ k) × (k < s.to)
 
--- a seat outside a span
-abbrev pub Beyond : Option Span → ℕ → Type 0
-Beyond None k = Unit {0}
-Beyond (Some s) k = (k < s.from) ⊎ (s.to ≤ k)
+-- seat k is outside the span
+abbrev pub Misses : Option Span → ℕ → Type 0
+Misses None k = Unit {0}
+Misses (Some s) k = (k < s.from) ⊎ (s.to ≤ k)
 
 -- a seat outside the span of a copy
 abbrev pub Outside : SiteCopy → ℕ → Type 0
-Outside c k = Beyond c.behind k
+Outside c k = Misses c.behind k
 
 -- nothing to copy: no seat lies in the span
 abbrev pub NoSpan : SiteCopy → Type 0
@@ -48,7 +48,7 @@ pub record Marked (seat : ℕ) (c d : SiteCopy) : Type 0 where
 
 -- c became d: it has the told prices in its span and its own elsewhere, and now lies behind nowhere
 pub record BroughtUp (told : PriceRow) (c d : SiteCopy) : Type 0 where
-  pub up : (k : ℕ) → Within c.behind k → at d.row k ≡ at told k
+  pub up : (k : ℕ) → Covers c.behind k → at d.row k ≡ at told k
   pub kept : (k : ℕ) → Outside c k → at d.row k ≡ at c.row k
   pub span : NoSpan d
 
