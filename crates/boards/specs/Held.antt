@@ -1,19 +1,22 @@
 -- Tellings that are held back.
-use Rattle.std.specs.Prelude.{◌≡◌, ℕ, ◌+◌, ◌<◌, ◌≤◌, min, cond, List, [], ◌∷◌, ◌++◌, length, take, drop, ◌==◌, slice_index_or, refl}
+use Rattle.std.specs.Prelude.{Option, find, reverse, unwrap_or, ◌≡◌, ℕ, ◌<◌, ◌≤◌, min, cond, List, [], ◌∷◌, ◌++◌, length, take, drop, ◌==◌, refl}
+use Rattle.std.specs.Option.{option_map}
 use Rattle.std.proofs.Common.{sym, ap, ◌∙◌, ⊎_elim, arith, le_refl, le_trans}
-use Rattle.std.proofs.lemmas.List.{at_drop_more, at_drop_all, take_all, drop_all}
+use Rattle.std.proofs.lemmas.List.{take_all, drop_all}
 use Rattle.std.proofs.lemmas.Bool.{cases_lt, cond_both, eqb-true}
+use Rattle.std.proofs.lemmas.List.Folds.{find-append}
+use Rattle.std.proofs.lemmas.Grind.{common_steps, reverse_onto}
 use Rattle.boards.specs.declared.tellings.Telling.{Telling}
 use Rattle.boards.specs.Calls.{Call, Run}
 use Rattle.boards.specs.Tellings.{newest, Seated, Climbs}
 
--- a loop's step from the oldest on: y is the price so far with the telling at i, and x the one without
-pub newest_more : (ts : List Telling) (i k x y : ℕ) (t : Telling) → i < length ts → y ≡ cond (k == (slice_index_or ts i t).seat) (slice_index_or ts i t).price x → newest (drop (i + 1) ts) k y ≡ newest (drop i ts) k x
-newest_more ts i k x y t h is =
-    ap (λ (p : ℕ). newest (drop (i + 1) ts) k p) is ∙ sym (at_drop_more (λ us. newest us k x) ts i t h)
+-- the newest telling for a seat is the first that a search from the back finds
+pub newest_found : (ts : List Telling) (k x : ℕ) → newest ts k x ≡ unwrap_or (option_map (λ t. t.price) (find (λ t. k == t.seat) (reverse ts))) x
+newest_found [] k x = refl
+newest_found (t ∷ ts) k x = grind (arith, common_steps, newest_found ts k (cond (k == t.seat) t.price x), find-append (λ (u : Telling). k == u.seat) (reverse ts) (t ∷ []), reverse_onto ts t [])
 
-pub newest_all : (ts : List Telling) (i k x : ℕ) → length ts ≤ i → newest (drop i ts) k x ≡ x
-newest_all ts i k x h = at_drop_all (λ us. newest us k x) ts i h
+pub newest_is : (ts us : List Telling) (k x : ℕ) (found : Option ℕ) → us ≡ ts → found ≡ option_map (λ t. t.price) (find (λ t. k == t.seat) (reverse us)) → unwrap_or found x ≡ newest ts k x
+newest_is ts us k x found same is = rw (is, same) (sym (newest_found ts k x))
 
 -- one call more, the last
 pub run_push : {S : Type 0} (Does : Call → S → S → Type 0) (cs : List Call) (c : Call) (a m b : S) → Run Does cs a m → Does c m b → Run Does (cs ++ c ∷ []) a b

@@ -1,5 +1,6 @@
 // The delay layer: over any board, it holds back the newest tellings.
-ghost use Rattle.std.specs.Prelude.{◌≡◌, ◌+◌, ◌-◌, ◌<◌, ◌≤◌, [], take, drop, IfOk, vec_len, vec_capacity, Decides};
+ghost use Rattle.std.specs.Prelude.{◌≡◌, ◌+◌, ◌-◌, ◌<◌, ◌≤◌, [], take, drop, IfOk, vec_len, vec_capacity, Decides, find, reverse, ◌==◌};
+ghost use Rattle.std.specs.Option.{option_map};
 ghost use Rattle.boards.specs.Limits.{held_limit};
 ghost use Rattle.boards.specs.Calls.{clears, tells, carries, settles};
 ghost use Rattle.boards.specs.Faces.{Takes};
@@ -39,13 +40,10 @@ impl<B: PriceBoard> Delay<B> {
     fn latest(&self, seat: usize) -> u64
         ensures { result ≡ newest self.now.held.items seat ((B.PriceBoard.face self.now.below).told seat) }
     {
-        let mut price = self.below.told(seat);
-        for t in self.held.iter() {
-            if t.seat == seat {
-                price = t.price;
-            }
+        match newest_held(&self.held, seat) {
+            Some(price) => price,
+            None => self.below.told(seat),
         }
-        price
     }
 
     // Whether the layer takes a telling, by its own told price and not by that of the board below.
@@ -77,6 +75,13 @@ impl<B: PriceBoard> Delay<B> {
             self.pass(passing);
         }
     }
+}
+
+// The price of the newest of some tellings for a seat.
+fn newest_held(held: &[Telling], seat: usize) -> Option<u64>
+    ensures { result ≡ option_map (λ t. t.price) (find (λ t. seat == t.seat) (reverse held.now)) }
+{
+    held.iter().rev().find(|t| seat == t.seat).map(|t| t.price)
 }
 
 // How many tellings pass down before one more is held.
