@@ -1,9 +1,8 @@
 -- Tellings that are held back.
-use Rattle.std.specs.Prelude.{Option, find, reverse, unwrap_or, ◌≡◌, ℕ, ◌<◌, ◌≤◌, min, cond, List, [], ◌∷◌, ◌++◌, length, take, drop, ◌==◌, refl}
+use Rattle.std.specs.Prelude.{Option, find, reverse, unwrap_or, ◌≡◌, ℕ, ◌<◌, ◌≤◌, cond, List, [], ◌∷◌, ◌++◌, ◌==◌, refl}
 use Rattle.std.specs.Option.{option_map}
-use Rattle.std.proofs.Common.{sym, ap, ◌∙◌, ⊎_elim, arith, le_refl, le_trans}
-use Rattle.std.proofs.lemmas.List.{take_all, drop_all}
-use Rattle.std.proofs.lemmas.Bool.{cases_lt, cond_both, eqb-true}
+use Rattle.std.proofs.Common.{sym, arith, le_refl, le_trans}
+use Rattle.std.proofs.lemmas.Bool.{cond_both, eqb-true}
 use Rattle.std.proofs.lemmas.List.Folds.{find-append}
 use Rattle.std.proofs.lemmas.Grind.{common_steps, reverse_onto}
 use Rattle.boards.specs.declared.tellings.Telling.{Telling}
@@ -22,19 +21,6 @@ newest_is ts us k x found same is = rw (is, same) (sym (newest_found ts k x))
 pub run_push : {S : Type 0} (Does : Call → S → S → Type 0) (cs : List Call) (c : Call) (a m b : S) → Run Does cs a m → Does c m b → Run Does (cs ++ c ∷ []) a b
 run_push Does [] c a m b is did = (b, rw is did, refl)
 run_push Does (d ∷ cs) c a m b (n, first, rest) did = (n, first, run_push Does cs c n m b rest did)
-
--- the first n, or all if fewer
-pub take_min : (n : ℕ) (ts : List Telling) → take (min n (length ts)) ts ≡ take n ts
-take_min n ts = ⊎_elim
-    (λ (h : n < length ts). let e : min n (length ts) ≡ n = omega arith in ap (λ (m : ℕ). take m ts) e)
-    (λ (h : length ts ≤ n). let l : length ts ≤ min n (length ts) = omega arith in take_all (min n (length ts)) ts l ∙ sym (take_all n ts h))
-    (cases_lt n (length ts))
-
-pub drop_min : (n : ℕ) (ts : List Telling) → drop (min n (length ts)) ts ≡ drop n ts
-drop_min n ts = ⊎_elim
-    (λ (h : n < length ts). let e : min n (length ts) ≡ n = omega arith in ap (λ (m : ℕ). drop m ts) e)
-    (λ (h : length ts ≤ n). let l : length ts ≤ min n (length ts) = omega arith in drop_all (min n (length ts)) ts l ∙ sym (drop_all n ts h))
-    (cases_lt n (length ts))
 
 -- one telling more, the newest
 pub newest_push : (ts : List Telling) (t : Telling) (k x : ℕ) → newest (ts ++ (t ∷ [])) k x ≡ cond (k == t.seat) t.price (newest ts k x)

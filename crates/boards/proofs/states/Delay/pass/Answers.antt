@@ -1,8 +1,7 @@
 use Rattle.std.proofs.Common.{◌≡◌, ℕ, ◌≤◌, min, List, length, take, drop, vec_items, vec_len, ap, ◌∙◌, subst, arith, rules}
-use Rattle.std.proofs.lemmas.List.{take_all, drop_all}
+use Rattle.std.proofs.lemmas.List.{take_all, drop_all, take_min, drop_min}
 use Rattle.boards.specs.declared.tellings.Telling.{Telling}
 use Rattle.boards.specs.Tellings.{Passed}
-use Rattle.boards.specs.Held.{take_min, drop_min}
 use Rattle.boards.proofs.states.Delay.pass.Goals as goal
 
 pub returns : goal.returns
