@@ -99,9 +99,7 @@ fn drop_oldest(held: &mut Vec<Telling>, count: usize)
     ensures len { vec_len held.new ≤ vec_len held.old }
     ensures room { vec_capacity held.new ≡ vec_capacity held.old }
 {
-    let left = held.len() - count;
-    held.rotate_left(count);
-    held.truncate(left);
+    drop(held.drain(..count));
 }
 
 impl<B: PriceBoard> PriceBoard for Delay<B> {
