@@ -61,7 +61,7 @@ impl<B: PriceBoard> Delay<B> {
     {
         let passing = count.min(self.held.len());
         tell_all(&mut self.below, &self.held[..passing]);
-        drop_oldest(&mut self.held, passing);
+        self.held.drain(..passing);
     }
 
     // Passes the oldest telling down where the layer is full.
@@ -90,16 +90,6 @@ fn passing_for_one(held: usize) -> usize
     ensures { result ≡ held + 1 - held_limit }
 {
     (held + 1).saturating_sub(HELD_LIMIT)
-}
-
-// Drops the first of a list, `count` of them, without giving room back.
-fn drop_oldest(held: &mut Vec<Telling>, count: usize)
-    requires { count ≤ vec_len held.old }
-    ensures held { held.new.items ≡ drop count held.old.items }
-    ensures len { vec_len held.new ≤ vec_len held.old }
-    ensures room { vec_capacity held.new ≡ vec_capacity held.old }
-{
-    drop(held.drain(..count));
 }
 
 impl<B: PriceBoard> PriceBoard for Delay<B> {
