@@ -70,9 +70,8 @@ impl<B: PriceBoard> Delay<B> {
         ensures below { Passed B.PriceBoard (take (due self.old.held.items) self.old.held.items) self.old.below self.new.below }
         ensures room { vec_len self.new.held < held_limit }
     {
-        let passing = passing_for_one(self.held.len());
-        if passing > 0 {
-            self.pass(passing);
+        if self.held.len() == HELD_LIMIT {
+            self.pass(1);
         }
     }
 }
@@ -82,14 +81,6 @@ fn newest_held(held: &[Telling], seat: usize) -> Option<u64>
     ensures { result ≡ option_map (λ t. t.price) (find (λ t. seat == t.seat) (reverse held.now)) }
 {
     held.iter().rev().find(|t| seat == t.seat).map(|t| t.price)
-}
-
-// How many tellings pass down before one more is held.
-fn passing_for_one(held: usize) -> usize
-    requires { held ≤ held_limit }
-    ensures { result ≡ held + 1 - held_limit }
-{
-    (held + 1).saturating_sub(HELD_LIMIT)
 }
 
 impl<B: PriceBoard> PriceBoard for Delay<B> {
