@@ -14,11 +14,11 @@ loop-t-preserved g c =
     let t : Telling = telling_at ts i in
     let face : g.row.B.Denot → Face = g.B.PriceBoard.face in
     let more : calls (take i ts) ++ (call t ∷ []) ≡ calls (take (i + 1) ts) = sym (map_more call ts i (record { seat = 0; price = 0 }) c.loop-t-test.true) in (
-      subst (λ (cs : List Call). Run g.B.PriceBoard.step cs c.args.board.now c.tell_one.new.board) more
-          (run_push g.B.PriceBoard.step (calls (take i ts)) (call t) c.args.board.now c.loop-t.board c.tell_one.new.board c.loop-t.invariant.0 c.tell_one.ensures.own),
-      λ s. subst (λ (cs : List Call). Run BoardDoes cs (face c.args.board.now) (face c.tell_one.new.board)) more
-          (run_push BoardDoes (calls (take i ts)) (call t) (face c.args.board.now) (face c.loop-t.board) (face c.tell_one.new.board) (c.loop-t.invariant.1 s) (c.tell_one.ensures.does (c.loop-t.invariant.2 s))),
-      λ s. c.tell_one.ensures.safe (c.loop-t.invariant.2 s),
+      subst (λ (cs : List Call). Run g.B.PriceBoard.step cs c.args.board.now c.tell.new.self) more
+          (run_push g.B.PriceBoard.step (calls (take i ts)) (call t) c.args.board.now c.loop-t.board c.tell.new.self c.loop-t.invariant.0 c.tell.ensures.own),
+      λ s. subst (λ (cs : List Call). Run BoardDoes cs (face c.args.board.now) (face c.tell.new.self)) more
+          (run_push BoardDoes (calls (take i ts)) (call t) (face c.args.board.now) (face c.loop-t.board) (face c.tell.new.self) (c.loop-t.invariant.1 s) (c.tell.ensures.does (c.loop-t.invariant.2 s))),
+      λ s. c.tell.ensures.safe (c.loop-t.invariant.2 s),
     )
 
 pub returns : goal.returns
