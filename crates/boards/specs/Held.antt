@@ -1,13 +1,14 @@
 -- Tellings that are held back.
-use Rattle.std.specs.Prelude.{Option, find, reverse, unwrap_or, ◌≡◌, ℕ, ◌<◌, ◌≤◌, cond, List, [], ◌∷◌, ◌++◌, ◌==◌, refl}
+use Rattle.std.specs.Prelude.{take, length, Option, find, reverse, unwrap_or, ◌≡◌, ℕ, ◌+◌, ◌<◌, ◌≤◌, cond, List, [], ◌∷◌, ◌++◌, ◌==◌, refl}
 use Rattle.std.specs.Option.{option_map}
-use Rattle.std.proofs.Common.{sym, arith, le_refl, le_trans}
+use Rattle.std.proofs.Common.{sym, subst, arith, le_refl, le_trans}
 use Rattle.std.proofs.lemmas.Bool.{cond_both, eqb-true}
+use Rattle.std.proofs.lemmas.List.{map_more}
 use Rattle.std.proofs.lemmas.List.Folds.{find-append}
 use Rattle.std.proofs.lemmas.Grind.{common_steps, reverse_onto}
 use Rattle.boards.specs.declared.tellings.Telling.{Telling}
 use Rattle.boards.specs.Calls.{Call, Run}
-use Rattle.boards.specs.Tellings.{newest, Seated, Climbs}
+use Rattle.boards.specs.Tellings.{call, calls, telling_at, newest, Seated, Climbs}
 
 -- the newest telling for a seat is the first that a search from the back finds
 pub newest_found : (ts : List Telling) (k x : ℕ) → newest ts k x ≡ unwrap_or (option_map (λ t. t.price) (find (λ t. k == t.seat) (reverse ts))) x
@@ -21,6 +22,12 @@ newest_is ts us k x found same is = rw (is, same) (sym (newest_found ts k x))
 pub run_push : {S : Type 0} (Does : Call → S → S → Type 0) (cs : List Call) (c : Call) (a m b : S) → Run Does cs a m → Does c m b → Run Does (cs ++ c ∷ []) a b
 run_push Does [] c a m b is did = (b, rw is did, refl)
 run_push Does (d ∷ cs) c a m b (n, first, rest) did = (n, first, run_push Does cs c n m b rest did)
+
+-- one telling more is told, the next
+pub run_next : {S : Type 0} (Does : Call → S → S → Type 0) (ts : List Telling) (i : ℕ) (a m b : S) → i < length ts → Run Does (calls (take i ts)) a m → Does (call (telling_at ts i)) m b → Run Does (calls (take (i + 1) ts)) a b
+run_next {S} Does ts i a m b h ran did =
+    let more : calls (take i ts) ++ call (telling_at ts i) ∷ [] ≡ calls (take (i + 1) ts) = sym (map_more call ts i (record { seat = 0; price = 0 }) h) in
+    subst (λ (cs : List Call). Run Does cs a b) more (run_push Does (calls (take i ts)) (call (telling_at ts i)) a m b ran did)
 
 -- one telling more, the newest
 pub newest_push : (ts : List Telling) (t : Telling) (k x : ℕ) → newest (ts ++ (t ∷ [])) k x ≡ cond (k == t.seat) t.price (newest ts k x)
