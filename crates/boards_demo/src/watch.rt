@@ -2,12 +2,19 @@
 ghost use Rattle.std.specs.Prelude.{◌≡◌};
 
 use boards::board::PriceBoard;
+use std::fmt;
 
 // What runs 0 and 1 are shown at one seat.
 #[derive(Clone, Copy, PartialEq, Eq, Debug)]
 pub struct Reading {
     pub first: u64,
     pub second: u64,
+}
+
+impl fmt::Display for Reading {
+    fn fmt<W: fmt::Write>(&self, f: &mut fmt::Formatter<W>) -> fmt::Result {
+        write!(f, "run 0 reads {}, run 1 reads {}", self.first, self.second)
+    }
 }
 
 // Readings at seat 1: after a telling of 7, after 1 was carried, and after a settle.
