@@ -1,6 +1,7 @@
 -- Models that compute: what calls lead to, as functions, and that every run of calls agrees with them.
-use Rattle.std.proofs.Common.{◌≡◌, ℕ, ◌%◌, ◌<◌, ◌≤◌, Bool, true, false, cond, ◌&&◌, eqb, ltb, leb, List, [], ◌∷◌, ◌++◌, take, drop, sym, refl, ap, ◌∙◌, subst, ⊎_elim, arith}
-use Rattle.std.proofs.lemmas.Bool.{cases_eq, cases_lt, cond-true, cond-false, eq-eqb, ne_eqb, lt-ltb, le-ltb, le-leb, lt-leb, and_from, and_left, and_right}
+use Rattle.std.proofs.Common.{◌≡◌, ℕ, ◌%◌, ◌<◌, Bool, true, false, cond, ◌&&◌, eqb, ltb, leb, List, [], ◌∷◌, ◌++◌, take, drop, sym, refl, ap, ◌∙◌, subst, ⊎_elim, arith}
+use Rattle.std.proofs.lemmas.Bool.Decides.{nat_tests}
+use Rattle.std.proofs.lemmas.Bool.{cases_eq, cond-true, cond-false, eq-eqb, ne_eqb}
 use Rattle.boards.specs.declared.tellings.Telling.{Telling}
 use Rattle.boards.specs.Limits.{seat_limit, site_count}
 use Rattle.boards.specs.Faces.{Face, Cleared, Takes, Refuses, Told, SameTold, BoardDoes, within}
@@ -24,20 +25,13 @@ abbrev pub told_after : ℕ → (ℕ → ℕ) → ℕ → ℕ → ℕ → ℕ
 told_after n p k x j = cond (takes? n p k x) (cond (eqb j k) x (p j)) (p j)
 
 pub size_after_lem : (n : ℕ) (g : Face) → Cleared n g → g.size ≡ size_after n
-size_after_lem n g c = ⊎_elim
-    (λ (h : seat_limit < n). c.emptied h ∙ sym (cond-false (leb n seat_limit) n 0 (lt-leb n seat_limit h)))
-    (λ (h : n ≤ seat_limit). c.sized h ∙ sym (cond-true (leb n seat_limit) n 0 (le-leb n seat_limit h)))
-    (cases_lt seat_limit n)
+size_after_lem n g c = grind (arith, nat_tests, c.emptied, c.sized)
 
 pub takes_true : (f : Face) (n : ℕ) (p : ℕ → ℕ) (k x : ℕ) → f.size ≡ n → f.told k ≡ p k → Takes f k x → takes? n p k x ≡ true
-takes_true f n p k x size told t =
-    and_from (ltb k n) (leb (p k) x) (lt-ltb k n (omega (arith, t.0))) (le-leb (p k) x (omega (arith, t.1)))
+takes_true f n p k x size told t = grind (arith, nat_tests)
 
 pub takes_false : (f : Face) (n : ℕ) (p : ℕ → ℕ) (k x : ℕ) → f.size ≡ n → f.told k ≡ p k → Refuses f k x → takes? n p k x ≡ false
-takes_false f n p k x size told why = ⊎_elim
-    (λ (h : f.size ≤ k). and_left (ltb k n) (leb (p k) x) (le-ltb k n (omega arith)))
-    (λ (h : x < f.told k). and_right (ltb k n) (leb (p k) x) (lt-leb (p k) x (omega arith)))
-    why
+takes_false f n p k x size told why = grind (arith, nat_tests)
 
 pub told_after_lem : (f g : Face) (n : ℕ) (p : ℕ → ℕ) (k x : ℕ) → f.size ≡ n → ((j : ℕ) → f.told j ≡ p j) → Told f g k x → (j : ℕ) → g.told j ≡ told_after n p k x j
 told_after_lem f g n p k x size same told j = ⊎_elim

@@ -2,7 +2,7 @@
 use Rattle.std.specs.Prelude.{take, length, Option, find, reverse, unwrap_or, ◌≡◌, ℕ, ◌+◌, ◌<◌, ◌≤◌, cond, List, [], ◌∷◌, ◌++◌, ◌==◌, refl}
 use Rattle.std.specs.Option.{option_map}
 use Rattle.std.proofs.Common.{sym, subst, arith, le_refl, le_trans}
-use Rattle.std.proofs.lemmas.Bool.{cond_both, eqb-true}
+use Rattle.std.proofs.lemmas.Bool.Decides.{nat_tests}
 use Rattle.std.proofs.lemmas.List.{map_more}
 use Rattle.std.proofs.lemmas.List.Folds.{find-append}
 use Rattle.std.proofs.lemmas.Grind.{common_steps, reverse_onto}
@@ -44,7 +44,7 @@ climbs_push (s ∷ ts) t k x h l = (h.0, climbs_push ts t k (cond (k == s.seat) 
 
 -- the first of them is no lower than where they start
 pub first_above : (t : Telling) (k x : ℕ) → (k ≡ t.seat → x ≤ t.price) → x ≤ cond (k == t.seat) t.price x
-first_above t k x h = cond_both (k == t.seat) t.price x (λ n. x ≤ n) (λ e. h (eqb-true k t.seat e)) (λ _. le_refl x)
+first_above t k x h = grind (arith, nat_tests)
 
 -- nor is the newest
 pub newest_above : (ts : List Telling) (k x : ℕ) → Climbs ts k x → x ≤ newest ts k x
