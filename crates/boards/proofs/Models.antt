@@ -1,7 +1,7 @@
 -- Models that compute: what calls lead to, as functions, and that every run of calls agrees with them.
 use Rattle.std.proofs.Common.{◌≡◌, ℕ, ◌%◌, ◌<◌, Bool, true, false, cond, ◌&&◌, eqb, ltb, leb, List, [], ◌∷◌, ◌++◌, take, drop, sym, refl, ap, ◌∙◌, subst, ⊎_elim, arith}
 use Rattle.std.proofs.lemmas.Bool.Decides.{nat_tests}
-use Rattle.std.proofs.lemmas.Bool.{cases_eq, cond-true, cond-false, eq-eqb, ne_eqb}
+use Rattle.std.proofs.lemmas.Bool.{cond-true, cond-false}
 use Rattle.boards.specs.declared.tellings.Telling.{Telling}
 use Rattle.boards.specs.Limits.{seat_limit, site_count}
 use Rattle.boards.specs.Faces.{Face, Cleared, Takes, Refuses, Told, SameTold, BoardDoes, within}
@@ -66,10 +66,7 @@ site_step_lem (tells k x) f e g a did = record {
 site_step_lem (carries r) f e g a did = record {
   size = did.carried.size ∙ a.size;
   told = λ k. did.carried.told k ∙ a.told k;
-  shown = λ i k h l. ⊎_elim
-      (λ (same : i % site_count ≡ r % site_count). did.reached i k (omega (arith, did.carried.size)) same ∙ a.told k ∙ sym (cond-true (eqb (i % site_count) (r % site_count)) (e.told k) (e.shown i k) (eq-eqb (i % site_count) (r % site_count) same)))
-      (λ (other : i % site_count ≡ r % site_count → ⊥). did.others i k other ∙ a.shown i k (omega (arith, did.carried.size)) (omega (arith, did.carried.size)) ∙ sym (cond-false (eqb (i % site_count) (r % site_count)) (e.told k) (e.shown i k) (ne_eqb (i % site_count) (r % site_count) other)))
-      (cases_eq (i % site_count) (r % site_count));
+  shown = λ i k h l. grind (arith, nat_tests, did.reached i k, did.others i k, did.carried.size, a.told k, a.shown i k);
 }
 site_step_lem settles f e g a did = record {
   size = did.same.size ∙ a.size;
