@@ -35,8 +35,8 @@ takes_false f n p k x size told why = grind (arith, nat_tests)
 
 pub told_after_lem : (f g : Face) (n : ℕ) (p : ℕ → ℕ) (k x : ℕ) → f.size ≡ n → ((j : ℕ) → f.told j ≡ p j) → Told f g k x → (j : ℕ) → g.told j ≡ told_after n p k x j
 told_after_lem f g n p k x size same told j = ⊎_elim
-    (λ (t : Takes f k x). told_is f g k x told t j ∙ ap (λ (y : ℕ). cond (eqb j k) x y) (same j) ∙ sym (cond-true (takes? n p k x) (cond (eqb j k) x (p j)) (p j) (takes_true f n p k x size (same k) t)))
-    (λ (why : Refuses f k x). (told.refused why).0.told j ∙ same j ∙ sym (cond-false (takes? n p k x) (cond (eqb j k) x (p j)) (p j) (takes_false f n p k x size (same k) why)))
+    (λ (t : Takes f k x). grind (arith, nat_tests, told_is f g k x told t j, takes_true f n p k x size (same k) t, same j))
+    (λ (why : Refuses f k x). grind (arith, nat_tests, (told.refused why).0.told j, takes_false f n p k x size (same k) why, same j))
     (cases_takes f k x)
 
 -- a site board after a call
