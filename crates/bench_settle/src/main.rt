@@ -40,7 +40,7 @@ fn run(rt: &HostRuntime, repeats: u64) -> anyhow::Result<()> {
         "a telling",
         &mut board,
         repeats,
-        |b, turn| tell_one(b, turn),
+        tell_one,
     )?;
     board.clear(SEATS);
     let after_one = time(

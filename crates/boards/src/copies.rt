@@ -43,8 +43,9 @@ impl SiteCopy {
     fn bring_up(&mut self, told: &PriceRow)
         ensures { BroughtUp told.now self.old self.new }
     {
-        if let Some(span) = self.behind.take() {
+        if let Some(span) = self.behind {
             copy_span(&mut self.row, told, span);
+            self.behind = None;
         }
     }
 }
