@@ -34,8 +34,14 @@ impl SiteCopy {
         ensures { Marked seat self.old self.new }
     {
         self.behind = Some(match self.behind {
-            Some(span) => span.with(seat),
-            None => Span::of(seat),
+            Some(span) => Span {
+                from: span.from.min(seat),
+                to: span.to.max(seat + 1),
+            },
+            None => Span {
+                from: seat,
+                to: seat + 1,
+            },
         });
     }
 
