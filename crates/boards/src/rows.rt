@@ -16,8 +16,16 @@ impl PriceRow {
     pub fn new() -> Self
         ensures { (k : ℕ) → at result k ≡ 0 }
     {
+        PriceRow::filled(0)
+    }
+
+    // A row of one price.
+    fn filled(x: u64) -> Self
+        ensures inside { (k : ℕ) → k < seat_limit → at result k ≡ x }
+        ensures past { (k : ℕ) → seat_limit ≤ k → at result k ≡ 0 }
+    {
         PriceRow {
-            prices: [0; SEAT_LIMIT],
+            prices: [x; SEAT_LIMIT],
         }
     }
 

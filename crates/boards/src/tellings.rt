@@ -1,5 +1,6 @@
 // Tellings, and a list of them told to any board.
-ghost use Rattle.boards.specs.Tellings.{Passed};
+ghost use Rattle.boards.specs.Faces.{BoardDoes};
+ghost use Rattle.boards.specs.Tellings.{Passed, call};
 
 use crate::board::PriceBoard;
 
@@ -15,6 +16,15 @@ pub fn tell_all<B: PriceBoard>(board: &mut B, tellings: &[Telling])
     ensures { Passed B.PriceBoard tellings.now board.old board.new }
 {
     for t in tellings {
-        board.tell(t.seat, t.price);
+        tell_one(board, *t);
     }
+}
+
+// Tells a board one telling.
+fn tell_one<B: PriceBoard>(board: &mut B, t: Telling)
+    ensures own { B.PriceBoard.step (call t) board.old board.new }
+    ensures does { B.PriceBoard.sound board.old → BoardDoes (call t) (B.PriceBoard.face board.old) (B.PriceBoard.face board.new) }
+    ensures safe { B.PriceBoard.sound board.old → B.PriceBoard.sound board.new }
+{
+    board.tell(t.seat, t.price);
 }
