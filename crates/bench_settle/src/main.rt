@@ -8,54 +8,57 @@ use std::time::Instant;
 // How many seats the board has.
 const SEATS: usize = 256;
 
-// Tellings, each followed by a settle where one is asked for; answers what run 9 is then shown at seat 1.
-fn tell_often(board: &mut SiteBoard, repeats: u64, settles: bool) -> u64 {
+// The seat and the price that a turn tells.
+fn tell_one(board: &mut SiteBoard, turn: u64) {
+    board.tell((turn % 256) as usize, turn);
+}
+
+// Times the work of one turn, repeated; answers what run 9 is then shown at seat 1.
+fn time<F: Fn(&mut SiteBoard, u64)>(
+    rt: &HostRuntime,
+    what: &str,
+    board: &mut SiteBoard,
+    repeats: u64,
+    work: F,
+) -> anyhow::Result<u64>
+    requires { F.IsAlwaysCallable work }
+{
+    let start = Instant::now(rt)?;
     for turn in 0..repeats {
-        board.tell((turn % 256) as usize, turn);
-        if settles {
-            board.settle();
-        }
+        work(board, turn);
     }
-    board.shows(9, 1)
-}
-
-// Settles with nothing told in between; answers the same.
-fn settle_often(board: &mut SiteBoard, repeats: u64) -> u64 {
-    for _ in 0..repeats {
-        board.settle();
-    }
-    board.shows(9, 1)
-}
-
-// A time, by the time of all repeats.
-fn report(rt: &HostRuntime, what: &str, nanos: u128, repeats: u64) -> anyhow::Result<()> {
-    let each = nanos / u128::from(repeats.max(1));
+    let each = start.elapsed(rt)?.as_nanos() / u128::from(repeats.max(1));
     eprintln!(rt; "{what}: {each} ns")?;
-    Ok(())
+    Ok(board.shows(9, 1))
 }
 
 fn run(rt: &HostRuntime, repeats: u64) -> anyhow::Result<()> {
     let mut board = SiteBoard::new();
     board.clear(SEATS);
-    let start = Instant::now(rt)?;
-    let alone = tell_often(&mut board, repeats, false);
-    report(rt, "a telling", start.elapsed(rt)?.as_nanos(), repeats)?;
+    let alone = time(
+        rt,
+        "a telling",
+        &mut board,
+        repeats,
+        tell_one,
+    )?;
     board.clear(SEATS);
-    let start = Instant::now(rt)?;
-    let after_one = tell_often(&mut board, repeats, true);
-    report(
+    let after_one = time(
         rt,
         "a telling and a settle",
-        start.elapsed(rt)?.as_nanos(),
+        &mut board,
         repeats,
+        |b, turn| {
+            tell_one(b, turn);
+            b.settle();
+        },
     )?;
-    let start = Instant::now(rt)?;
-    let after_none = settle_often(&mut board, repeats);
-    report(
+    let after_none = time(
         rt,
         "a settle with nothing told since",
-        start.elapsed(rt)?.as_nanos(),
+        &mut board,
         repeats,
+        |b, _| b.settle(),
     )?;
     println!(rt; "run 9 is shown {alone}, {after_one} and {after_none} at seat 1")?;
     Ok(())

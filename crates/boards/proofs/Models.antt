@@ -1,6 +1,7 @@
 -- Models that compute: what calls lead to, as functions, and that every run of calls agrees with them.
-use Rattle.std.proofs.Common.{◌≡◌, ℕ, ◌%◌, ◌<◌, ◌≤◌, Bool, true, false, cond, ◌&&◌, eqb, ltb, leb, List, [], ◌∷◌, ◌++◌, take, drop, sym, refl, ap, ◌∙◌, subst, ⊎_elim, arith}
-use Rattle.std.proofs.lemmas.Bool.{cases_eq, cases_lt, cond-true, cond-false, eq-eqb, ne_eqb, lt-ltb, le-ltb, le-leb, lt-leb, and_from, and_left, and_right}
+use Rattle.std.proofs.Common.{◌≡◌, ℕ, ◌%◌, ◌<◌, Bool, true, false, cond, ◌&&◌, eqb, ltb, leb, List, [], ◌∷◌, ◌++◌, take, drop, sym, refl, ap, ◌∙◌, subst, ⊎_elim, arith}
+use Rattle.std.proofs.lemmas.Bool.Decides.{nat_tests}
+use Rattle.std.proofs.lemmas.Bool.{cond-true, cond-false}
 use Rattle.boards.specs.declared.tellings.Telling.{Telling}
 use Rattle.boards.specs.Limits.{seat_limit, site_count}
 use Rattle.boards.specs.Faces.{Face, Cleared, Takes, Refuses, Told, SameTold, BoardDoes, within}
@@ -24,25 +25,18 @@ abbrev pub told_after : ℕ → (ℕ → ℕ) → ℕ → ℕ → ℕ → ℕ
 told_after n p k x j = cond (takes? n p k x) (cond (eqb j k) x (p j)) (p j)
 
 pub size_after_lem : (n : ℕ) (g : Face) → Cleared n g → g.size ≡ size_after n
-size_after_lem n g c = ⊎_elim
-    (λ (h : seat_limit < n). c.emptied h ∙ sym (cond-false (leb n seat_limit) n 0 (lt-leb n seat_limit h)))
-    (λ (h : n ≤ seat_limit). c.sized h ∙ sym (cond-true (leb n seat_limit) n 0 (le-leb n seat_limit h)))
-    (cases_lt seat_limit n)
+size_after_lem n g c = grind (arith, nat_tests, c.emptied, c.sized)
 
 pub takes_true : (f : Face) (n : ℕ) (p : ℕ → ℕ) (k x : ℕ) → f.size ≡ n → f.told k ≡ p k → Takes f k x → takes? n p k x ≡ true
-takes_true f n p k x size told t =
-    and_from (ltb k n) (leb (p k) x) (lt-ltb k n (omega (arith, t.0))) (le-leb (p k) x (omega (arith, t.1)))
+takes_true f n p k x size told t = grind (arith, nat_tests)
 
 pub takes_false : (f : Face) (n : ℕ) (p : ℕ → ℕ) (k x : ℕ) → f.size ≡ n → f.told k ≡ p k → Refuses f k x → takes? n p k x ≡ false
-takes_false f n p k x size told why = ⊎_elim
-    (λ (h : f.size ≤ k). and_left (ltb k n) (leb (p k) x) (le-ltb k n (omega arith)))
-    (λ (h : x < f.told k). and_right (ltb k n) (leb (p k) x) (lt-leb (p k) x (omega arith)))
-    why
+takes_false f n p k x size told why = grind (arith, nat_tests)
 
 pub told_after_lem : (f g : Face) (n : ℕ) (p : ℕ → ℕ) (k x : ℕ) → f.size ≡ n → ((j : ℕ) → f.told j ≡ p j) → Told f g k x → (j : ℕ) → g.told j ≡ told_after n p k x j
 told_after_lem f g n p k x size same told j = ⊎_elim
-    (λ (t : Takes f k x). told_is f g k x told t j ∙ ap (λ (y : ℕ). cond (eqb j k) x y) (same j) ∙ sym (cond-true (takes? n p k x) (cond (eqb j k) x (p j)) (p j) (takes_true f n p k x size (same k) t)))
-    (λ (why : Refuses f k x). (told.refused why).0.told j ∙ same j ∙ sym (cond-false (takes? n p k x) (cond (eqb j k) x (p j)) (p j) (takes_false f n p k x size (same k) why)))
+    (λ (t : Takes f k x). grind (arith, nat_tests, told_is f g k x told t j, takes_true f n p k x size (same k) t, same j))
+    (λ (why : Refuses f k x). grind (arith, nat_tests, (told.refused why).0.told j, takes_false f n p k x size (same k) why, same j))
     (cases_takes f k x)
 
 -- a site board after a call
@@ -72,10 +66,7 @@ site_step_lem (tells k x) f e g a did = record {
 site_step_lem (carries r) f e g a did = record {
   size = did.carried.size ∙ a.size;
   told = λ k. did.carried.told k ∙ a.told k;
-  shown = λ i k h l. ⊎_elim
-      (λ (same : i % site_count ≡ r % site_count). did.reached i k (omega (arith, did.carried.size)) same ∙ a.told k ∙ sym (cond-true (eqb (i % site_count) (r % site_count)) (e.told k) (e.shown i k) (eq-eqb (i % site_count) (r % site_count) same)))
-      (λ (other : i % site_count ≡ r % site_count → ⊥). did.others i k other ∙ a.shown i k (omega (arith, did.carried.size)) (omega (arith, did.carried.size)) ∙ sym (cond-false (eqb (i % site_count) (r % site_count)) (e.told k) (e.shown i k) (ne_eqb (i % site_count) (r % site_count) other)))
-      (cases_eq (i % site_count) (r % site_count));
+  shown = λ i k h l. grind (arith, nat_tests, did.reached i k, did.others i k, did.carried.size, a.told k, a.shown i k);
 }
 site_step_lem settles f e g a did = record {
   size = did.same.size ∙ a.size;

@@ -3,14 +3,14 @@ use Rattle.std.specs.Prelude.{◌≡◌}
 use Rattle.boards.specs.declared.states.CommonBoard.{CommonBoard}
 use Rattle.boards.specs.Calls.{Call, clears, tells, carries, settles}
 use Rattle.boards.specs.Faces.{Face, Cleared, Told, Level, within}
-use Rattle.boards.specs.Rows.{at}
+use Rattle.boards.specs.Lists.{price_at}
 
 -- every run is shown the told prices
 abbrev pub common_face : CommonBoard → Face
 common_face b = record {
-  size = b.size;
-  told = λ k. within b.size k (at b.told k);
-  shown = λ i k. within b.size i (within b.size k (at b.told k));
+  size = b.told.size;
+  told = price_at b.told;
+  shown = λ i k. within b.told.size i (price_at b.told k);
 }
 
 -- every state is sound

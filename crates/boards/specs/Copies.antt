@@ -1,39 +1,56 @@
 -- Copies of the told prices at the sites.
-use Rattle.std.specs.Prelude.{◌≡◌, ℕ, ◌+◌, ◌<◌, ◌≤◌, min, max, ◌⊎◌, List, [], slice_index_or}
+use Rattle.std.specs.Prelude.{◌≡◌, ℕ, ◌+◌, ◌<◌, ◌≤◌, min, max, ◌⊎◌, Option, None, Some, IsSomeAnd, List, [], slice_index_or}
 use Rattle.boards.specs.declared.rows.PriceRow.{PriceRow}
+use Rattle.boards.specs.declared.spans.Span.{Span}
 use Rattle.boards.specs.declared.copies.SiteCopy.{SiteCopy}
-use Rattle.boards.specs.Limits.{seat_limit, site_count}
+use Rattle.boards.specs.Limits.{site_count}
 use Rattle.boards.specs.Rows.{at}
 
 -- the copy of site c
 abbrev pub copy_at : List SiteCopy → ℕ → SiteCopy
-copy_at copies c = slice_index_or copies c (record { row = record { prices = [] }; from = 0; to = 0 })
+copy_at copies c = slice_index_or copies c (record { row = record { prices = [] }; behind = None })
+
+-- the span holds seat k
+abbrev pub Covers : Option Span → ℕ → Type 0
+Covers None k = ⊥
+Covers (Some s) k = (s.from ≤ k) × (k < s.to)
+
+-- seat k is outside the span
+abbrev pub Misses : Option Span → ℕ → Type 0
+Misses None k = Unit {0}
+Misses (Some s) k = (k < s.from) ⊎ (s.to ≤ k)
 
 -- a seat outside the span of a copy
 abbrev pub Outside : SiteCopy → ℕ → Type 0
-Outside c k = (k < c.from) ⊎ (c.to ≤ k)
+Outside c k = Misses c.behind k
 
 -- nothing to copy: no seat lies in the span
 abbrev pub NoSpan : SiteCopy → Type 0
-NoSpan c = (c.from ≡ seat_limit) × (c.to ≡ 0)
+NoSpan c = c.behind ≡ None
 
 -- a copy of zeros that lies behind nowhere
 abbrev pub Blank : SiteCopy → Type 0
 Blank c = NoSpan c × ((k : ℕ) → at c.row k ≡ 0)
 
--- the copy, with a seat in its span
-abbrev pub marked : SiteCopy → ℕ → SiteCopy
-marked c seat = record { row = c.row; from = min c.from seat; to = max c.to (seat + 1) }
+-- where the span begins that holds a seat too, and where it ends
+abbrev pub first_with : Option Span → ℕ → ℕ
+first_with None seat = seat
+first_with (Some s) seat = min s.from seat
+
+abbrev pub end_with : Option Span → ℕ → ℕ
+end_with None seat = seat + 1
+end_with (Some s) seat = max s.to (seat + 1)
+
+-- c became d when a seat was noted: d has the prices of c, and that seat in its span
+pub record Marked (seat : ℕ) (c d : SiteCopy) : Type 0 where
+  pub row : d.row ≡ c.row
+  pub span : IsSomeAnd d.behind (λ s. (s.from ≡ first_with c.behind seat) × (s.to ≡ end_with c.behind seat))
 
 -- c became d: it has the told prices in its span and its own elsewhere, and now lies behind nowhere
 pub record BroughtUp (told : PriceRow) (c d : SiteCopy) : Type 0 where
-  pub up : (k : ℕ) → c.from ≤ k → k < c.to → at d.row k ≡ at told k
+  pub up : (k : ℕ) → Covers c.behind k → at d.row k ≡ at told k
   pub kept : (k : ℕ) → Outside c k → at d.row k ≡ at c.row k
   pub span : NoSpan d
-
--- no span goes past the row
-abbrev pub Short : List SiteCopy → Type 0
-Short copies = (c : ℕ) → c < site_count → (copy_at copies c).to ≤ seat_limit
 
 -- outside its span a copy has the told prices
 abbrev pub LevelOutside : PriceRow → List SiteCopy → Type 0

@@ -1,37 +1,33 @@
 -- Tellings that are held back.
-use Rattle.std.specs.Prelude.{◌≡◌, ℕ, ◌+◌, ◌<◌, ◌≤◌, min, cond, List, [], ◌∷◌, ◌++◌, length, take, drop, ◌==◌, slice_index_or, refl}
-use Rattle.std.proofs.Common.{sym, ap, ◌∙◌, ⊎_elim, arith, le_refl, le_trans}
-use Rattle.std.proofs.lemmas.List.{at_drop_more, at_drop_all, take_all, drop_all}
-use Rattle.std.proofs.lemmas.Bool.{cases_lt, cond_both, eqb-true}
+use Rattle.std.specs.Prelude.{take, length, Option, find, reverse, unwrap_or, ◌≡◌, ℕ, ◌+◌, ◌<◌, ◌≤◌, cond, List, [], ◌∷◌, ◌++◌, ◌==◌, refl}
+use Rattle.std.specs.Option.{option_map}
+use Rattle.std.proofs.Common.{sym, subst, arith, le_refl, le_trans}
+use Rattle.std.proofs.lemmas.Bool.Decides.{nat_tests}
+use Rattle.std.proofs.lemmas.List.{map_more}
+use Rattle.std.proofs.lemmas.List.Folds.{find-append}
+use Rattle.std.proofs.lemmas.Grind.{common_steps, reverse_onto}
 use Rattle.boards.specs.declared.tellings.Telling.{Telling}
 use Rattle.boards.specs.Calls.{Call, Run}
-use Rattle.boards.specs.Tellings.{newest, Seated, Climbs}
+use Rattle.boards.specs.Tellings.{call, calls, telling_at, newest, Seated, Climbs}
 
--- a loop's step from the oldest on: y is the price so far with the telling at i, and x the one without
-pub newest_more : (ts : List Telling) (i k x y : ℕ) (t : Telling) → i < length ts → y ≡ cond (k == (slice_index_or ts i t).seat) (slice_index_or ts i t).price x → newest (drop (i + 1) ts) k y ≡ newest (drop i ts) k x
-newest_more ts i k x y t h is =
-    ap (λ (p : ℕ). newest (drop (i + 1) ts) k p) is ∙ sym (at_drop_more (λ us. newest us k x) ts i t h)
+-- the newest telling for a seat is the first that a search from the back finds
+pub newest_found : (ts : List Telling) (k x : ℕ) → newest ts k x ≡ unwrap_or (option_map (λ t. t.price) (find (λ t. k == t.seat) (reverse ts))) x
+newest_found [] k x = refl
+newest_found (t ∷ ts) k x = grind (arith, common_steps, newest_found ts k (cond (k == t.seat) t.price x), find-append (λ (u : Telling). k == u.seat) (reverse ts) (t ∷ []), reverse_onto ts t [])
 
-pub newest_all : (ts : List Telling) (i k x : ℕ) → length ts ≤ i → newest (drop i ts) k x ≡ x
-newest_all ts i k x h = at_drop_all (λ us. newest us k x) ts i h
+pub newest_is : (ts us : List Telling) (k x : ℕ) (found : Option ℕ) → us ≡ ts → found ≡ option_map (λ t. t.price) (find (λ t. k == t.seat) (reverse us)) → unwrap_or found x ≡ newest ts k x
+newest_is ts us k x found same is = rw (is, same) (sym (newest_found ts k x))
 
 -- one call more, the last
 pub run_push : {S : Type 0} (Does : Call → S → S → Type 0) (cs : List Call) (c : Call) (a m b : S) → Run Does cs a m → Does c m b → Run Does (cs ++ c ∷ []) a b
 run_push Does [] c a m b is did = (b, rw is did, refl)
 run_push Does (d ∷ cs) c a m b (n, first, rest) did = (n, first, run_push Does cs c n m b rest did)
 
--- the first n, or all if fewer
-pub take_min : (n : ℕ) (ts : List Telling) → take (min n (length ts)) ts ≡ take n ts
-take_min n ts = ⊎_elim
-    (λ (h : n < length ts). let e : min n (length ts) ≡ n = omega arith in ap (λ (m : ℕ). take m ts) e)
-    (λ (h : length ts ≤ n). let l : length ts ≤ min n (length ts) = omega arith in take_all (min n (length ts)) ts l ∙ sym (take_all n ts h))
-    (cases_lt n (length ts))
-
-pub drop_min : (n : ℕ) (ts : List Telling) → drop (min n (length ts)) ts ≡ drop n ts
-drop_min n ts = ⊎_elim
-    (λ (h : n < length ts). let e : min n (length ts) ≡ n = omega arith in ap (λ (m : ℕ). drop m ts) e)
-    (λ (h : length ts ≤ n). let l : length ts ≤ min n (length ts) = omega arith in drop_all (min n (length ts)) ts l ∙ sym (drop_all n ts h))
-    (cases_lt n (length ts))
+-- one telling more is told, the next
+pub run_next : {S : Type 0} (Does : Call → S → S → Type 0) (ts : List Telling) (i : ℕ) (a m b : S) → i < length ts → Run Does (calls (take i ts)) a m → Does (call (telling_at ts i)) m b → Run Does (calls (take (i + 1) ts)) a b
+run_next {S} Does ts i a m b h ran did =
+    let more : calls (take i ts) ++ call (telling_at ts i) ∷ [] ≡ calls (take (i + 1) ts) = sym (map_more call ts i (record { seat = 0; price = 0 }) h) in
+    subst (λ (cs : List Call). Run Does cs a b) more (run_push Does (calls (take i ts)) (call (telling_at ts i)) a m b ran did)
 
 -- one telling more, the newest
 pub newest_push : (ts : List Telling) (t : Telling) (k x : ℕ) → newest (ts ++ (t ∷ [])) k x ≡ cond (k == t.seat) t.price (newest ts k x)
@@ -48,7 +44,7 @@ climbs_push (s ∷ ts) t k x h l = (h.0, climbs_push ts t k (cond (k == s.seat) 
 
 -- the first of them is no lower than where they start
 pub first_above : (t : Telling) (k x : ℕ) → (k ≡ t.seat → x ≤ t.price) → x ≤ cond (k == t.seat) t.price x
-first_above t k x h = cond_both (k == t.seat) t.price x (λ n. x ≤ n) (λ e. h (eqb-true k t.seat e)) (λ _. le_refl x)
+first_above t k x h = grind (arith, nat_tests)
 
 -- nor is the newest
 pub newest_above : (ts : List Telling) (k x : ℕ) → Climbs ts k x → x ≤ newest ts k x

@@ -1,8 +1,8 @@
 -- A delay layer is again a board: what its calls do to the layer they do to its face as a board's do.
 use Rattle.std.specs.Prelude.{◌≡◌, ℕ, ◌<◌, ◌≤◌, cond, ◌⊎◌, List, [], ◌∷◌, ◌++◌, take, drop, ◌==◌, refl}
-use Rattle.std.proofs.Common.{sym, ap, subst, ◌∙◌, inr, ⊎_elim, arith, le_trans}
+use Rattle.std.proofs.Common.{sym, ap, subst, ◌∙◌, ⊎_elim, arith}
 use Rattle.std.proofs.lemmas.List.{append-nil, take-append-drop}
-use Rattle.std.proofs.lemmas.Bool.{cases_lt, cond-true, cond-false, eq-eqb, ne_eqb}
+use Rattle.std.proofs.lemmas.Bool.Decides.{nat_tests}
 use Rattle.boards.specs.declared.tellings.Telling.{Telling}
 use Rattle.boards.specs.Calls.{Run}
 use Rattle.boards.specs.Faces.{Face, Told, Carried, Settled, SameTold, Takes, Refuses, BoardDoes, within}
@@ -101,8 +101,8 @@ taken_layer n l g t s takes passed =
     subst (λ (x : ℕ). x ≤ t.price) (inside f.size t.seat (newest l.held t.seat (f.told t.seat)) takes.0 ∙ sym (mv.newest t.seat)) takes.1 in (
       record {
         size = mv.size;
-        raised = λ _. inside g.size t.seat _ seat-in ∙ newer t.seat ∙ cond-true (t.seat == t.seat) t.price _ (eq-eqb t.seat t.seat refl);
-        others = λ _ k ne. told_same g.size f.size k _ _ mv.size (newer k ∙ cond-false (k == t.seat) t.price _ (ne_eqb k t.seat ne));
+        raised = λ _. grind (arith, nat_tests, newer t.seat);
+        others = λ _ k ne. grind (arith, nat_tests, newer k, mv.size);
         refused = λ why. absurd (not_both (layer_face l) t.seat t.price takes why);
       },
       record {
@@ -123,7 +123,4 @@ told_layer l m seat x s did = ⊎_elim
 
 -- what is shown below the layer is at most the layer's told price
 pub layer_behind : (l : Layer Face) → Steady l → ((i k : ℕ) → l.below.shown i k ≤ l.below.told k) → ((i k : ℕ) → (l.below.size ≤ i) ⊎ (l.below.size ≤ k) → l.below.shown i k ≡ 0) → (i k : ℕ) → (layer_face l).shown i k ≤ (layer_face l).told k
-layer_behind l s behind unshown i k = ⊎_elim
-    (λ (h : k < l.below.size). subst (λ (x : ℕ). l.below.shown i k ≤ x) (sym (inside l.below.size k _ h)) (le_trans (behind i k) (newest_above l.held k (l.below.told k) (s.climbs k))))
-    (λ (h : l.below.size ≤ k). omega (arith, unshown i k (inr h)))
-    (cases_lt k l.below.size)
+layer_behind l s behind unshown i k = grind (arith, nat_tests, behind i k, unshown i k, newest_above l.held k (l.below.told k) (s.climbs k))

@@ -2,6 +2,7 @@ pub mod Limits
 pub mod Calls
 pub mod Faces
 pub mod Rows
+pub mod Lists
 pub mod Copies
 pub mod Commons
 pub mod Sites

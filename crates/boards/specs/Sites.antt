@@ -5,19 +5,20 @@ use Rattle.boards.specs.Limits.{site_count}
 use Rattle.boards.specs.Calls.{Call, clears, tells, carries, settles}
 use Rattle.boards.specs.Faces.{Face, Cleared, Told, Carried, Settled, SameShown, within}
 use Rattle.boards.specs.Rows.{at}
+use Rattle.boards.specs.Lists.{price_at}
 use Rattle.boards.specs.Copies.{copy_at, Behind}
 
 -- run i is shown the copy of site i mod 8
 abbrev pub site_face : SiteBoard → Face
 site_face b = record {
-  size = b.size;
-  told = λ k. within b.size k (at b.told k);
-  shown = λ i k. within b.size i (within b.size k (at (copy_at b.copies (i % site_count)).row k));
+  size = b.told.size;
+  told = price_at b.told;
+  shown = λ i k. within b.told.size i (within b.told.size k (at (copy_at b.copies (i % site_count)).row k));
 }
 
 -- no copy is ahead of the told prices
 abbrev pub site_sound : SiteBoard → Type 0
-site_sound b = Behind b.told b.copies
+site_sound b = Behind b.told.row b.copies
 
 -- f became g when the price of a seat was told: it reaches no copy
 pub record SiteTold (f g : Face) (seat x : ℕ) : Type 0 where

@@ -4,8 +4,7 @@ ghost use Rattle.boards.specs.Commons.{common_face, common_sound, CommonDoes};
 ghost use Rattle.std.proofs.Common.{rules};
 
 use crate::board::PriceBoard;
-use crate::rows::{PriceRow, size_after_clear};
-use crate::states::CommonBoard;
+use crate::states::{CommonBoard, PriceList};
 
 impl CommonBoard {
     // A board of no seats.
@@ -13,8 +12,7 @@ impl CommonBoard {
         ensures { Cleared 0 (common_face result) }
     {
         CommonBoard {
-            size: 0,
-            told: PriceRow::new(),
+            told: PriceList::cleared(0),
         }
     }
 }
@@ -35,30 +33,27 @@ impl PriceBoard for CommonBoard {
     ghost unshown = { Prim.search rules };
 
     fn clear(&mut self, n: usize) {
-        self.told = PriceRow::new();
-        self.size = size_after_clear(n);
+        self.told = PriceList::cleared(n);
     }
 
     fn tell(&mut self, seat: usize, x: u64) {
-        if self.told.takes(self.size, seat, x) {
-            self.told.put(seat, x);
-        }
+        self.told.tell(seat, x);
     }
 
     fn size(&self) -> usize {
-        self.size
+        self.told.size()
     }
 
     fn shows(&self, run: usize, seat: usize) -> u64 {
-        if run < self.size { self.told(seat) } else { 0 }
-    }
-
-    fn told(&self, seat: usize) -> u64 {
-        if seat < self.size {
-            self.told.prices[seat]
+        if run < self.size() {
+            self.told(seat)
         } else {
             0
         }
+    }
+
+    fn told(&self, seat: usize) -> u64 {
+        self.told.at(seat)
     }
 
     fn carry(&mut self, _r: usize) {

@@ -1,20 +1,20 @@
 // A site's copy of the told prices, which may lie behind them at some seats.
-ghost use Rattle.std.specs.Prelude.{◌≡◌, ℕ, ◌+◌, ◌<◌, ◌≤◌, ◌≢◌, ◌⊎◌};
+ghost use Rattle.std.specs.Prelude.{◌≡◌, ℕ, ◌+◌, ◌<◌, ◌≤◌, ◌≢◌};
 ghost use Rattle.boards.specs.Limits.{seat_limit, site_count};
 ghost use Rattle.boards.specs.Rows.{at};
-ghost use Rattle.boards.specs.Copies.{copy_at, marked, BroughtUp, Short, Blank};
+ghost use Rattle.boards.specs.Copies.{copy_at, Marked, Covers, Misses, BroughtUp, Blank};
 
-use crate::rows::{PriceRow, SEAT_LIMIT};
+use crate::rows::PriceRow;
+use crate::spans::Span;
 
 // How many sites there are, each with a copy.
 pub const SITES: usize = 8;
 
-// A copy may lie behind at the seats from `from` up to `to`, and at no others.
+// A copy may lie behind at the seats of a span, and at no others.
 #[derive(Clone, Copy)]
 pub struct SiteCopy {
     pub row: PriceRow,
-    pub from: usize,
-    pub to: usize,
+    pub behind: Option<Span>,
 }
 
 impl SiteCopy {
@@ -24,47 +24,51 @@ impl SiteCopy {
     {
         SiteCopy {
             row: PriceRow::new(),
-            from: SEAT_LIMIT,
-            to: 0,
+            behind: None,
         }
     }
 
     // Notes that a price was told at a seat.
     fn mark(&mut self, seat: usize)
         requires { seat < seat_limit }
-        ensures { self.new ≡ marked self.old seat }
+        ensures { Marked seat self.old self.new }
     {
-        self.from = self.from.min(seat);
-        self.to = self.to.max(seat + 1);
+        self.behind = Some(match self.behind {
+            Some(span) => Span {
+                from: span.from.min(seat),
+                to: span.to.max(seat + 1),
+            },
+            None => Span {
+                from: seat,
+                to: seat + 1,
+            },
+        });
     }
 
     // Copies the told prices wherever this copy may lie behind.
     fn bring_up(&mut self, told: &PriceRow)
-        requires { self.old.to ≤ seat_limit }
         ensures { BroughtUp told.now self.old self.new }
     {
-        for k in self.from..self.to {
-            self.row.prices[k] = told.prices[k];
+        if let Some(span) = self.behind {
+            copy_span(&mut self.row, told, span);
+            self.behind = None;
         }
-        self.from = SEAT_LIMIT;
-        self.to = 0;
     }
 }
 
 // Notes at every site that a price was told at a seat.
 pub(crate) fn mark_all(copies: &mut [SiteCopy; SITES], seat: usize)
     requires { seat < seat_limit }
-    ensures { (c : ℕ) → c < site_count → copy_at copies.new c ≡ marked (copy_at copies.old c) seat }
+    ensures { (c : ℕ) → c < site_count → Marked seat (copy_at copies.old c) (copy_at copies.new c) }
 {
-    for c in 0..SITES {
-        copies[c].mark(seat);
+    for copy in copies {
+        copy.mark(seat);
     }
 }
 
 // Copies the told prices wherever the copy of one site may lie behind.
 pub(crate) fn bring_one_up(copies: &mut [SiteCopy; SITES], told: &PriceRow, site: usize)
-    requires short { Short copies.old }
-    requires within { site < site_count }
+    requires { site < site_count }
     ensures here { BroughtUp told.now (copy_at copies.old site) (copy_at copies.new site) }
     ensures elsewhere { (c : ℕ) → c ≢ site → copy_at copies.new c ≡ copy_at copies.old c }
 {
@@ -73,10 +77,20 @@ pub(crate) fn bring_one_up(copies: &mut [SiteCopy; SITES], told: &PriceRow, site
 
 // Copies the told prices wherever a site's copy may lie behind.
 pub(crate) fn bring_all_up(copies: &mut [SiteCopy; SITES], told: &PriceRow)
-    requires { Short copies.old }
     ensures { (c : ℕ) → c < site_count → BroughtUp told.now (copy_at copies.old c) (copy_at copies.new c) }
 {
-    for c in 0..SITES {
-        copies[c].bring_up(told);
+    for copy in copies {
+        copy.bring_up(told);
+    }
+}
+
+// Copies the told prices at the seats of a span.
+fn copy_span(row: &mut PriceRow, told: &PriceRow, span: Span)
+    ensures up { (k : ℕ) → Covers (Some span) k → at row.new k ≡ at told.now k }
+    ensures kept { (k : ℕ) → Misses (Some span) k → at row.new k ≡ at row.old k }
+{
+    // `copy_from_slice` doubles a telling and a settle, 44 ns in place of 22: most spans are of one seat
+    for k in span.from..span.to {
+        row.prices[k] = told.prices[k];
     }
 }

@@ -1,5 +1,6 @@
 // The delay layer: over any board, it holds back the newest tellings.
-ghost use Rattle.std.specs.Prelude.{◌≡◌, ◌+◌, ◌-◌, ◌<◌, ◌≤◌, [], take, drop, IfOk, vec_len, vec_capacity, Decides};
+ghost use Rattle.std.specs.Prelude.{◌≡◌, ◌+◌, ◌-◌, ◌<◌, ◌≤◌, [], take, drop, IfOk, vec_len, vec_capacity, Decides, find, reverse, ◌==◌};
+ghost use Rattle.std.specs.Option.{option_map};
 ghost use Rattle.boards.specs.Limits.{held_limit};
 ghost use Rattle.boards.specs.Calls.{clears, tells, carries, settles};
 ghost use Rattle.boards.specs.Faces.{Takes};
@@ -39,13 +40,10 @@ impl<B: PriceBoard> Delay<B> {
     fn latest(&self, seat: usize) -> u64
         ensures { result ≡ newest self.now.held.items seat ((B.PriceBoard.face self.now.below).told seat) }
     {
-        let mut price = self.below.told(seat);
-        for t in self.held.iter() {
-            if t.seat == seat {
-                price = t.price;
-            }
+        match newest_held(&self.held, seat) {
+            Some(price) => price,
+            None => self.below.told(seat),
         }
-        price
     }
 
     // Whether the layer takes a telling, by its own told price and not by that of the board below.
@@ -63,7 +61,7 @@ impl<B: PriceBoard> Delay<B> {
     {
         let passing = count.min(self.held.len());
         tell_all(&mut self.below, &self.held[..passing]);
-        drop_oldest(&mut self.held, passing);
+        self.held.drain(..passing);
     }
 
     // Passes the oldest telling down where the layer is full.
@@ -72,31 +70,17 @@ impl<B: PriceBoard> Delay<B> {
         ensures below { Passed B.PriceBoard (take (due self.old.held.items) self.old.held.items) self.old.below self.new.below }
         ensures room { vec_len self.new.held < held_limit }
     {
-        let passing = passing_for_one(self.held.len());
-        if passing > 0 {
-            self.pass(passing);
+        if self.held.len() == HELD_LIMIT {
+            self.pass(1);
         }
     }
 }
 
-// How many tellings pass down before one more is held.
-fn passing_for_one(held: usize) -> usize
-    requires { held ≤ held_limit }
-    ensures { result ≡ held + 1 - held_limit }
+// The price of the newest of some tellings for a seat.
+fn newest_held(held: &[Telling], seat: usize) -> Option<u64>
+    ensures { result ≡ option_map (λ t. t.price) (find (λ t. seat == t.seat) (reverse held.now)) }
 {
-    (held + 1).saturating_sub(HELD_LIMIT)
-}
-
-// Drops the first of a list, `count` of them, without giving room back.
-fn drop_oldest(held: &mut Vec<Telling>, count: usize)
-    requires { count ≤ vec_len held.old }
-    ensures held { held.new.items ≡ drop count held.old.items }
-    ensures len { vec_len held.new ≤ vec_len held.old }
-    ensures room { vec_capacity held.new ≡ vec_capacity held.old }
-{
-    let left = held.len() - count;
-    held.rotate_left(count);
-    held.truncate(left);
+    held.iter().rev().find(|t| seat == t.seat).map(|t| t.price)
 }
 
 impl<B: PriceBoard> PriceBoard for Delay<B> {

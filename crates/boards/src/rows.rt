@@ -1,5 +1,5 @@
-// Rows of prices, one for each seat, and what boards that keep one decide by it.
-ghost use Rattle.std.specs.Prelude.{◌≡◌, ℕ, ◌<◌, ◌≤◌, ◌≢◌, Decides};
+// Rows of prices, one for each seat.
+ghost use Rattle.std.specs.Prelude.{◌≡◌, ℕ, ◌<◌, ◌≤◌, ◌≢◌};
 ghost use Rattle.boards.specs.Limits.{seat_limit};
 ghost use Rattle.boards.specs.Rows.{at};
 
@@ -39,21 +39,4 @@ impl PriceRow {
             self.prices[seat] = x;
         }
     }
-
-    // Whether a board of this size with these told prices takes a telling.
-    pub(crate) fn takes(&self, size: usize, seat: usize, x: u64) -> bool
-        requires { size ≤ seat_limit }
-        ensures { Decides result ((seat < size) × (at self.now seat ≤ x)) }
-    {
-        seat < size && x >= self.prices[seat]
-    }
-}
-
-// The size of a board that is cleared to n seats: none where n is over the limit.
-pub(crate) fn size_after_clear(n: usize) -> usize
-    ensures sized { n ≤ seat_limit → result ≡ n }
-    ensures emptied { seat_limit < n → result ≡ 0 }
-    ensures few { result ≤ seat_limit }
-{
-    if n <= SEAT_LIMIT { n } else { 0 }
 }

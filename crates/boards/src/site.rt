@@ -2,14 +2,13 @@
 ghost use Rattle.std.specs.Prelude.{◌≡◌, ℕ, ◌%◌, ◌<◌, ◌≢◌};
 ghost use Rattle.boards.specs.Limits.{site_count};
 ghost use Rattle.boards.specs.Faces.{Cleared, Settled, Takes, Refuses};
-ghost use Rattle.boards.specs.Copies.{copy_at, marked, NoSpan};
+ghost use Rattle.boards.specs.Copies.{copy_at, Marked, NoSpan};
 ghost use Rattle.boards.specs.Sites.{site_face, site_sound, SiteTold, SiteCarried, SiteDoes};
 ghost use Rattle.std.proofs.Common.{rules};
 
 use crate::board::PriceBoard;
 use crate::copies::{SITES, SiteCopy, bring_all_up, bring_one_up, mark_all};
-use crate::rows::{PriceRow, size_after_clear};
-use crate::states::SiteBoard;
+use crate::states::{PriceList, SiteBoard};
 
 impl SiteBoard {
     // A board of no seats.
@@ -19,8 +18,7 @@ impl SiteBoard {
         ensures everywhere { (c : ℕ) → c < site_count → NoSpan (copy_at result.copies c) }
     {
         SiteBoard {
-            size: 0,
-            told: PriceRow::new(),
+            told: PriceList::cleared(0),
             copies: [SiteCopy::new(); SITES],
         }
     }
@@ -46,30 +44,28 @@ impl PriceBoard for SiteBoard {
         ensures safe { site_sound self.new }
         ensures everywhere { (c : ℕ) → c < site_count → NoSpan (copy_at self.new.copies c) }
     {
-        self.told = PriceRow::new();
+        self.told = PriceList::cleared(n);
         self.copies = [SiteCopy::new(); SITES];
-        self.size = size_after_clear(n);
     }
 
     // Reaches no copy: each only notes the seat in its span.
     fn tell(&mut self, seat: usize, x: u64)
         ensures safe { site_sound self.old → site_sound self.new }
         ensures own { SiteTold (site_face self.old) (site_face self.new) seat x }
-        ensures noted { Takes (site_face self.old) seat x → (c : ℕ) → c < site_count → copy_at self.new.copies c ≡ marked (copy_at self.old.copies c) seat }
+        ensures noted { Takes (site_face self.old) seat x → (c : ℕ) → c < site_count → Marked seat (copy_at self.old.copies c) (copy_at self.new.copies c) }
         ensures refused { Refuses (site_face self.old) seat x → self.new.copies ≡ self.old.copies }
     {
-        if self.told.takes(self.size, seat, x) {
-            self.told.put(seat, x);
+        if self.told.tell(seat, x) {
             mark_all(&mut self.copies, seat);
         }
     }
 
     fn size(&self) -> usize {
-        self.size
+        self.told.size()
     }
 
     fn shows(&self, run: usize, seat: usize) -> u64 {
-        if run < self.size && seat < self.size {
+        if run < self.size() && seat < self.size() {
             self.copies[run % SITES].row.prices[seat]
         } else {
             0
@@ -77,11 +73,7 @@ impl PriceBoard for SiteBoard {
     }
 
     fn told(&self, seat: usize) -> u64 {
-        if seat < self.size {
-            self.told.prices[seat]
-        } else {
-            0
-        }
+        self.told.at(seat)
     }
 
     // Brings the copy of site r mod 8 up to the told prices.
@@ -91,7 +83,7 @@ impl PriceBoard for SiteBoard {
         ensures here { NoSpan (copy_at self.new.copies (r % site_count)) }
         ensures elsewhere { (c : ℕ) → c ≢ r % site_count → copy_at self.new.copies c ≡ copy_at self.old.copies c }
     {
-        bring_one_up(&mut self.copies, &self.told, r % SITES);
+        bring_one_up(&mut self.copies, &self.told.row, r % SITES);
     }
 
     // Brings every copy up to the told prices.
@@ -100,6 +92,6 @@ impl PriceBoard for SiteBoard {
         ensures own { Settled (site_face self.old) (site_face self.new) }
         ensures everywhere { (c : ℕ) → c < site_count → NoSpan (copy_at self.new.copies c) }
     {
-        bring_all_up(&mut self.copies, &self.told);
+        bring_all_up(&mut self.copies, &self.told.row);
     }
 }

@@ -1,29 +1,32 @@
 // The states of the boards.
 ghost use Rattle.std.specs.Prelude.{◌≤◌, vec_len, vec_capacity};
 ghost use Rattle.boards.specs.Limits.{seat_limit, held_limit};
-ghost use Rattle.boards.specs.Copies.{Short, LevelOutside};
+ghost use Rattle.boards.specs.Copies.{LevelOutside};
 
 use crate::copies::{SITES, SiteCopy};
 use crate::rows::PriceRow;
 use crate::tellings::Telling;
 
+// The told prices of a board, and how many of its row's seats are seats of the board.
+#[derive(Clone, Copy)]
+pub(crate) struct PriceList {
+    pub(crate) size: usize,
+    pub(crate) row: PriceRow,
+    ghost few: { size ≤ seat_limit },
+}
+
 // A board that shows every run what it was told.
 #[derive(Drop)]
 pub struct CommonBoard {
-    pub(crate) size: usize,
-    pub(crate) told: PriceRow,
-    ghost few: { size ≤ seat_limit },
+    pub(crate) told: PriceList,
 }
 
 // A board of eight sites, each with a copy of the told prices that only a carry or a settle brings up.
 #[derive(Drop)]
 pub struct SiteBoard {
-    pub(crate) size: usize,
-    pub(crate) told: PriceRow,
+    pub(crate) told: PriceList,
     pub(crate) copies: [SiteCopy; SITES],
-    ghost few: { size ≤ seat_limit },
-    ghost short: { Short copies },
-    ghost level: { LevelOutside told copies },
+    ghost level: { LevelOutside told.row copies },
 }
 
 // A board, and the tellings held back from it, the oldest first.

@@ -5,7 +5,7 @@ ghost use Rattle.boards.specs.Tellings.{Passed, call};
 use crate::board::PriceBoard;
 
 // A price told at a seat.
-#[derive(Clone, Copy)]
+#[derive(Clone, Copy, PartialEq, Eq, Debug)]
 pub struct Telling {
     pub seat: usize,
     pub price: u64,

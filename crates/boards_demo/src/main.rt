@@ -7,9 +7,7 @@ use boards::states::{CommonBoard, Delay, SiteBoard};
 mod watch;
 
 fn line(rt: &HostRuntime, when: &str, reading: Reading) -> anyhow::Result<()> {
-    let first = reading.first;
-    let second = reading.second;
-    println!(rt; "  {when}: run 0 reads {first}, run 1 reads {second}")?;
+    println!(rt; "  {when}: {reading}")?;
     Ok(())
 }
 

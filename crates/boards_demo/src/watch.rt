@@ -2,16 +2,23 @@
 ghost use Rattle.std.specs.Prelude.{◌≡◌};
 
 use boards::board::PriceBoard;
+use std::fmt;
 
 // What runs 0 and 1 are shown at one seat.
-#[derive(Clone, Copy)]
+#[derive(Clone, Copy, PartialEq, Eq, Debug)]
 pub struct Reading {
     pub first: u64,
     pub second: u64,
 }
 
+impl fmt::Display for Reading {
+    fn fmt<W: fmt::Write>(&self, f: &mut fmt::Formatter<W>) -> fmt::Result {
+        write!(f, "run 0 reads {}, run 1 reads {}", self.first, self.second)
+    }
+}
+
 // Readings at seat 1: after a telling of 7, after 1 was carried, and after a settle.
-#[derive(Clone, Copy)]
+#[derive(Clone, Copy, PartialEq, Eq, Debug)]
 pub struct Seen {
     pub told: Reading,
     pub carried: Reading,
@@ -49,7 +56,7 @@ pub fn watch<B: PriceBoard>(board: &mut B) -> Seen
 // Two seats, and the prices 1 to `count` told at seat 0.
 pub fn tell_up_to<B: PriceBoard>(board: &mut B, count: u64) {
     board.clear(2);
-    for x in 0..count {
-        board.tell(0, x + 1);
+    for x in 1..=count {
+        board.tell(0, x);
     }
 }
