@@ -1,4 +1,5 @@
 pub mod Bytes
+pub mod Codes
 pub mod Headers
 pub mod Dense
 pub mod Kinds

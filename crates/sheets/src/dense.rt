@@ -9,13 +9,11 @@ ghost use Rattle.std.proofs.Common.{rules};
 
 use crate::checks::{ABSENT, check_header, check_words};
 use crate::fields::{no_bytes, sheet_fault, u32_at};
+use crate::kinds::Kind;
 use fault::causes::Cause;
 use fault::faults::Fault;
 use points::sources::{PairSource, RowSource};
 use std::alloc::Global;
-
-// The kind of a dense sheet, as its header has it.
-pub const DENSE_KIND: u16 = 0;
 
 // A dense sheet, by its bytes: none, or bytes that keep every rule.
 #[derive(Drop)]
@@ -40,7 +38,7 @@ pub(crate) fn check_frame(bytes: &[u8]) -> Result<usize, Fault>
         (λ n. Passes (dense_frame bytes.now) × (n ≡ size_in bytes.now))
         (λ f. Refuses (dense_frame bytes.now) f) }
 {
-    let header = check_header(bytes, DENSE_KIND)?;
+    let header = check_header(bytes, Kind::Dense)?;
     sheet_fault(Cause::Spans, 4).unless(header.spans == 0)?;
     let size = usize::from(header.size);
     sheet_fault(Cause::Length, bytes.len()).unless(bytes.len() == 8 + 4 * (size * size))?;
