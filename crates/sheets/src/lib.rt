@@ -6,6 +6,7 @@ pub mod dense;
 pub mod fields;
 pub mod kinds;
 pub mod rules;
+pub mod sheet;
 pub mod spans;
 pub mod sparse;
 pub mod theorems;
