@@ -1,5 +1,6 @@
 #![tactic(auto)]
 // Benefit sheets: tables of points as bytes.
+pub mod any;
 pub mod certificate_files;
 pub mod checks;
 pub mod dense;
