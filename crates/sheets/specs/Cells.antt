@@ -6,8 +6,8 @@ use Rattle.fault.specs.Checks.{Passes, kept}
 use Rattle.fault.proofs.Once.{kept_passes}
 use Rattle.points.specs.Tables.{Pays, Lawful}
 use Rattle.sheets.specs.Bytes.{le32}
-use Rattle.sheets.specs.Headers.{size_in, sheet_top, absent, signed32, in_range, taken}
-use Rattle.sheets.specs.Dense.{row_at, dense_checks, cell, dense_table}
+use Rattle.sheets.specs.Headers.{size_in, sheet_top, absent, signed32, in_range}
+use Rattle.sheets.specs.Dense.{row_at, is_cell, dense_checks, cell, dense_table}
 use Rattle.sheets.specs.Words.{filled, range_bounds}
 
 -- the rows below n lie within n times n cells
@@ -25,7 +25,7 @@ module _ (bs : List ℕ) (keeps : 0 < length bs → kept (dense_checks bs) ≡ t
   pub room : (i k : ℕ) → i < size_in bs → k < size_in bs → row_at (size_in bs) i + 4 * k + 4 ≤ length bs
   room i k h l = omega (arith, eqb-true _ _ (passed i h).0.1.1, row_within (size_in bs) i h)
 
-  fair : (i k : ℕ) → i < size_in bs → k < size_in bs → taken true (le32 bs (row_at (size_in bs) i + 4 * k)) ≡ true
+  fair : (i k : ℕ) → i < size_in bs → k < size_in bs → is_cell (le32 bs (row_at (size_in bs) i + 4 * k)) ≡ true
   fair i k h l = (passed i h).1 i h k l
 
   -- an allowed pair lies below the size, and its word is in range

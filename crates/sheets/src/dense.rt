@@ -3,10 +3,10 @@ ghost use Rattle.std.specs.Prelude.{◌≡◌, ◌+◌, ◌*◌, ◌<◌, ◌≤
 ghost use Rattle.fault.specs.Checks.{Passes, Refuses};
 ghost use Rattle.points.specs.Limits.{size_limit};
 ghost use Rattle.sheets.specs.Headers.{size_in};
-ghost use Rattle.sheets.specs.Dense.{row_at, cell, dense_frame, dense_cells, dense_checks, dense_table};
+ghost use Rattle.sheets.specs.Dense.{row_at, is_cell, cell, dense_frame, dense_cells, dense_checks, dense_table};
 ghost use Rattle.sheets.specs.Cells.{dense_lawful};
 
-use crate::checks::{ABSENT, check_header, check_words};
+use crate::checks::{ABSENT, Words, check_header, check_words, in_range};
 use crate::fields::{sheet_fault, u32_at};
 use crate::kinds::Kind;
 use crate::sheet::{Layout, Sheet};
@@ -46,7 +46,7 @@ pub(crate) fn check_cells(bytes: &[u8], size: usize) -> Result<(), Fault>
     ensures { MatchResult result (λ _. Passes (dense_cells bytes.now)) (λ f. Refuses (dense_cells bytes.now) f) }
 {
     for run in 0..size {
-        check_words(bytes, row_at(size, run), size, true)?;
+        check_words::<Dense>(bytes, row_at(size, run), size)?;
     }
     Ok(())
 }
@@ -59,6 +59,14 @@ pub(crate) fn cell_of(word: u32) -> Option<i32>
         None
     } else {
         Some(word.cast_signed())
+    }
+}
+
+impl Words for Dense {
+    ghost takes = { is_cell };
+
+    fn takes(word: u32) -> bool {
+        word == ABSENT || in_range(word)
     }
 }
 

@@ -9,6 +9,7 @@ use crate::checks::{check_header, check_words};
 use crate::fields::{Header, sheet_fault};
 use crate::kinds::Kind;
 use crate::spans::{Span, row_of, span_at, span_of};
+use crate::sparse::Sparse;
 use fault::causes::Cause;
 use fault::faults::Fault;
 
@@ -141,7 +142,7 @@ pub(crate) fn check_points(bytes: &[u8], from: usize, count: usize) -> Result<()
     ensures { MatchResult result (λ _. Passes (point_checks bytes.now from count)) (λ f. Refuses (point_checks bytes.now from count) f) }
 {
     sheet_fault(Cause::Length, bytes.len()).unless(bytes.len() == from + 4 * count)?;
-    check_words(bytes, from, count, false)
+    check_words::<Sparse>(bytes, from, count)
 }
 
 // Every rule of a sparse sheet, in order; answers the size.

@@ -3,11 +3,12 @@ ghost use Rattle.std.specs.Prelude.{◌≡◌, ◌+◌, ◌-◌, ◌*◌, ◌<�
 ghost use Rattle.fault.specs.Checks.{Passes};
 ghost use Rattle.points.specs.Tables.{Next};
 ghost use Rattle.points.specs.Limits.{size_limit};
-ghost use Rattle.sheets.specs.Headers.{size_in, spans_in};
+ghost use Rattle.sheets.specs.Headers.{size_in, spans_in, in_range};
 ghost use Rattle.sheets.specs.Sparse.{span_limit, points_at, sparse_checks, point_word, sparse_table};
 ghost use Rattle.sheets.specs.Seeks.{point_by};
 ghost use Rattle.sheets.specs.Ranges.{sparse_lawful};
 
+use crate::checks::{Words, in_range};
 use crate::fields::u32_at;
 use crate::rules::check_sparse;
 use crate::sheet::{Layout, Sheet};
@@ -69,6 +70,14 @@ pub(crate) fn next_in(bytes: &[u8], size: usize, run: usize, from: usize) -> Opt
 {
     let span = first_over(bytes, size, run, from)?;
     Some(reached(span, from))
+}
+
+impl Words for Sparse {
+    ghost takes = { in_range };
+
+    fn takes(word: u32) -> bool {
+        in_range(word)
+    }
 }
 
 impl Layout for Sparse {
