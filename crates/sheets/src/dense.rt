@@ -95,11 +95,6 @@ impl Layout for Dense {
     }
 
     fn next(bytes: &[u8], size: usize, run: usize, from: usize) -> Option<usize> {
-        for seat in from..size {
-            if Dense::points(bytes, size, run, seat).is_some() {
-                return Some(seat);
-            }
-        }
-        None
+        (from..size).find(|&seat| Dense::points(bytes, size, run, seat).is_some())
     }
 }
