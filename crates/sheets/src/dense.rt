@@ -39,18 +39,6 @@ pub(crate) fn check_frame(bytes: &[u8]) -> Result<usize, Fault>
     Ok(size)
 }
 
-// The points of every run, in order.
-pub(crate) fn check_cells(bytes: &[u8], size: usize) -> Result<(), Fault>
-    requires size { (size ≡ size_in bytes.now) × (size ≤ size_limit) }
-    requires room { 8 + 4 * (size * size) ≤ length bytes.now }
-    ensures { MatchResult result (λ _. Passes (dense_cells bytes.now)) (λ f. Refuses (dense_cells bytes.now) f) }
-{
-    for run in 0..size {
-        check_words::<Dense>(bytes, row_at(size, run), size)?;
-    }
-    Ok(())
-}
-
 // What a word says of its pair.
 pub(crate) fn cell_of(word: u32) -> Option<i32>
     ensures { result ≡ cell word }
@@ -83,7 +71,7 @@ impl Layout for Dense {
 
     fn check(bytes: &[u8]) -> Result<usize, Fault> {
         let size = check_frame(bytes)?;
-        check_cells(bytes, size)?;
+        check_words::<Dense>(bytes, row_at(size, 0), size * size)?;
         Ok(size)
     }
 
