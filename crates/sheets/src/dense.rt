@@ -13,10 +13,47 @@ use crate::sheet::{Layout, Sheet};
 use fault::causes::Cause;
 use fault::faults::Fault;
 
-// Dense sheets.
+// The layout of dense sheets.
 pub struct Dense;
 
 pub type DenseSheet = Sheet<Dense>;
+
+impl Layout for Dense {
+    ghost checks = { dense_checks };
+
+    ghost table = { dense_table };
+
+    ghost sized = { λ bs. refl };
+
+    ghost topped = { λ bs. refl };
+
+    ghost lawful = { dense_lawful };
+
+    fn check(bytes: &[u8]) -> Result<usize, Fault> {
+        let size = check_frame(bytes)?;
+        check_words::<Dense>(bytes, row_at(size, 0), size * size)?;
+        Ok(size)
+    }
+
+    fn points(bytes: &[u8], size: usize, run: usize, seat: usize) -> Option<i32> {
+        if seat >= size {
+            return None;
+        }
+        cell_of(u32_at(bytes, row_at(size, run) + 4 * seat))
+    }
+
+    fn next(bytes: &[u8], size: usize, run: usize, from: usize) -> Option<usize> {
+        (from..size).find(|&seat| Dense::points(bytes, size, run, seat).is_some())
+    }
+}
+
+impl Words for Dense {
+    ghost takes = { is_cell };
+
+    fn takes(word: u32) -> bool {
+        word == ABSENT || in_range(word)
+    }
+}
 
 // The first byte of the points of a run.
 pub(crate) fn row_at(size: usize, run: usize) -> usize
@@ -47,42 +84,5 @@ pub(crate) fn cell_of(word: u32) -> Option<i32>
         None
     } else {
         Some(word.cast_signed())
-    }
-}
-
-impl Words for Dense {
-    ghost takes = { is_cell };
-
-    fn takes(word: u32) -> bool {
-        word == ABSENT || in_range(word)
-    }
-}
-
-impl Layout for Dense {
-    ghost checks = { dense_checks };
-
-    ghost table = { dense_table };
-
-    ghost sized = { λ bs. refl };
-
-    ghost topped = { λ bs. refl };
-
-    ghost lawful = { dense_lawful };
-
-    fn check(bytes: &[u8]) -> Result<usize, Fault> {
-        let size = check_frame(bytes)?;
-        check_words::<Dense>(bytes, row_at(size, 0), size * size)?;
-        Ok(size)
-    }
-
-    fn points(bytes: &[u8], size: usize, run: usize, seat: usize) -> Option<i32> {
-        if seat >= size {
-            return None;
-        }
-        cell_of(u32_at(bytes, row_at(size, run) + 4 * seat))
-    }
-
-    fn next(bytes: &[u8], size: usize, run: usize, from: usize) -> Option<usize> {
-        (from..size).find(|&seat| Dense::points(bytes, size, run, seat).is_some())
     }
 }

@@ -15,7 +15,7 @@ use crate::sheet::{Layout, Sheet};
 use crate::spans::{Span, first_over, span_at};
 use fault::faults::Fault;
 
-// Sparse sheets.
+// The layout of sparse sheets.
 pub struct Sparse;
 
 pub type SparseSheet = Sheet<Sparse>;
