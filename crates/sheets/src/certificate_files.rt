@@ -1,9 +1,8 @@
 // Certificate files: the seats of all runs, and then the prices of all seats.
 ghost use Rattle.std.specs.Prelude.{◌≡◌, ℕ, ◌+◌, ◌*◌, ◌<◌, ◌≤◌, length, IfOk, MatchResult};
-ghost use Rattle.sheets.specs.Bytes.{le64};
 ghost use Rattle.sheets.specs.CertificateFiles.{SeatsIn, PricesIn, Holds, Unread};
 
-use crate::fields::{u16_at, u32_at};
+use crate::fields::Field;
 use std::alloc::{AllocError, Global};
 
 // The bytes of one run: two for its seat, and eight for the price of the seat of its number.
@@ -25,14 +24,6 @@ pub enum Unreadable {
     Memory,
 }
 
-// The number of 64 bits at a byte.
-pub(crate) fn u64_at(bytes: &[u8], at: usize) -> u64
-    requires { at + 8 ≤ length bytes.now }
-    ensures { result ≡ le64 bytes.now at }
-{
-    u64::from(u32_at(bytes, at)) + u64::from(u32_at(bytes, at + 4)) * 4_294_967_296
-}
-
 // The seats of the first runs.
 pub(crate) fn read_seats(heap: Global, bytes: &[u8], size: usize) -> Result<Vec<u16>, AllocError>
     requires { 2 * size ≤ length bytes.now }
@@ -40,7 +31,7 @@ pub(crate) fn read_seats(heap: Global, bytes: &[u8], size: usize) -> Result<Vec<
 {
     let mut seats = Vec::new(heap);
     for run in 0..size {
-        seats.push(u16_at(bytes, 2 * run))?;
+        seats.push(u16::at(bytes, 2 * run))?;
     }
     Ok(seats)
 }
@@ -57,7 +48,7 @@ pub(crate) fn read_prices(
 {
     let mut prices = Vec::new(heap);
     for seat in 0..size {
-        prices.push(u64_at(bytes, from + 8 * seat))?;
+        prices.push(u64::at(bytes, from + 8 * seat))?;
     }
     Ok(prices)
 }

@@ -5,7 +5,7 @@ ghost use Rattle.fault.specs.declared.causes.Cause.TheVariants.{Points};
 ghost use Rattle.sheets.specs.Bytes.{le32};
 ghost use Rattle.sheets.specs.Headers.{size_in, spans_in, sheet_fault, header_checks, in_range, taken, word_checks};
 
-use crate::fields::{Header, read_header, sheet_fault, u32_at};
+use crate::fields::{Field, Header, read_header, sheet_fault};
 use fault::causes::Cause;
 use fault::faults::Fault;
 use points::limits::SIZE_LIMIT;
@@ -48,7 +48,7 @@ pub(crate) fn check_word(bytes: &[u8], at: usize, marks: bool) -> Result<(), Fau
     requires { at + 4 ≤ length bytes.now }
     ensures { MatchResult result (λ _. taken marks (le32 bytes.now at) ≡ true) (λ f. (taken marks (le32 bytes.now at) ≡ false) × (f ≡ sheet_fault Points at)) }
 {
-    sheet_fault(Cause::Points, at).unless(is_taken(marks, u32_at(bytes, at)))
+    sheet_fault(Cause::Points, at).unless(is_taken(marks, u32::at(bytes, at)))
 }
 
 // Words of points one after the other, from a byte on.

@@ -8,7 +8,7 @@ ghost use Rattle.sheets.specs.Cells.{dense_lawful};
 ghost use Rattle.std.proofs.Common.{rules};
 
 use crate::checks::{ABSENT, check_header, check_words};
-use crate::fields::{no_bytes, sheet_fault, u32_at};
+use crate::fields::{Field, no_bytes, sheet_fault};
 use fault::causes::Cause;
 use fault::faults::Fault;
 use points::sources::{PairSource, RowSource};
@@ -138,7 +138,7 @@ impl PairSource for DenseSheet {
         if run >= self.size || seat >= self.size {
             return None;
         }
-        cell_of(u32_at(&self.bytes, row_at(self.size, run) + 4 * seat))
+        cell_of(u32::at(&self.bytes, row_at(self.size, run) + 4 * seat))
     }
 }
 

@@ -25,5 +25,5 @@ within c =
 pub overflow_add-row_at : goal.overflow_add-row_at
 overflow_add-row_at c = omega (arith, within c, ap length c.deref.ensures.value, c.deref.ensures.len)
 
-pub u32_at-requires : goal.u32_at-requires
-u32_at-requires c = omega (arith, within c, ap length c.deref.ensures.value)
+pub at-requires : goal.at-requires
+at-requires c = omega (arith, within c, ap length c.deref.ensures.value)
