@@ -2,6 +2,8 @@
 ghost use Rattle.std.specs.Prelude.{◌≡◌, ℕ, ◌+◌, ◌<◌, ◌≤◌, List, [], take, drop, length, MatchResult};
 ghost use Rattle.fault.specs.declared.causes.Cause.TheVariants.{Length};
 ghost use Rattle.sheets.specs.Bytes.{le16, le32, le64};
+ghost use Rattle.sheets.specs.Parts.{le16_alone, le32_alone, le64_alone};
+ghost use Rattle.std.proofs.Common.{rules};
 ghost use Rattle.sheets.specs.Headers.{size_in, kind_in, spans_in, sheet_fault};
 
 use fault::causes::Cause;
@@ -31,6 +33,11 @@ pub(crate) trait Field: Copy {
     fn at(bytes: &[u8], at: usize) -> Self
         requires { at + WIDTH ≤ length bytes.now }
         ensures { result ≡ reads bytes.now at };
+
+    // it takes some bytes, and their number depends on no others
+    ghost wide: { 0 < WIDTH };
+
+    ghost local: { (bs : List ℕ) (at : ℕ) → reads (take WIDTH (drop at bs)) 0 ≡ reads bs at };
 }
 
 impl Field for u16 {
@@ -39,6 +46,10 @@ impl Field for u16 {
     const WIDTH: usize = 2;
 
     ghost reads = { le16 };
+
+    ghost wide = { Prim.search rules };
+
+    ghost local = { le16_alone };
 
     fn at(bytes: &[u8], at: usize) -> u16 {
         u16::from_le_bytes(bytes_at(bytes, at))
@@ -52,6 +63,10 @@ impl Field for u32 {
 
     ghost reads = { le32 };
 
+    ghost wide = { Prim.search rules };
+
+    ghost local = { le32_alone };
+
     fn at(bytes: &[u8], at: usize) -> u32 {
         u32::from_le_bytes(bytes_at(bytes, at))
     }
@@ -63,6 +78,10 @@ impl Field for u64 {
     const WIDTH: usize = 8;
 
     ghost reads = { le64 };
+
+    ghost wide = { Prim.search rules };
+
+    ghost local = { le64_alone };
 
     fn at(bytes: &[u8], at: usize) -> u64 {
         u64::from_le_bytes(bytes_at(bytes, at))
