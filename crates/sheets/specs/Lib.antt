@@ -11,6 +11,7 @@ pub mod Merging
 pub mod Examples
 pub mod Cells
 pub mod Words
+pub mod Parts
 pub mod Ranges
 pub mod Covered
 pub mod Finds

@@ -4,7 +4,7 @@ ghost use Rattle.fault.specs.Checks.{Passes, Refuses};
 ghost use Rattle.sheets.specs.Codes.{code};
 ghost use Rattle.sheets.specs.Headers.{size_in, spans_in, sheet_fault, header_checks, in_range, word_checks};
 
-use crate::fields::{Header, read_header, sheet_fault, u32_at};
+use crate::fields::{Field, Header, read_header, sheet_fault};
 use crate::kinds::Kind;
 use fault::causes::Cause;
 use fault::faults::Fault;
@@ -48,7 +48,7 @@ pub(crate) fn check_words<K: Words>(bytes: &[u8], from: usize, count: usize) -> 
     requires { from + 4 * count ≤ length bytes.now }
     ensures { MatchResult result (λ _. Passes (word_checks K.takes bytes.now from count)) (λ f. Refuses (word_checks K.takes bytes.now from count) f) }
 {
-    let refused = (0..count).find(|&k| !K::takes(u32_at(bytes, from + 4 * k)));
+    let refused = (0..count).find(|&k| !K::takes(u32::at(bytes, from + 4 * k)));
     match refused {
         None => Ok(()),
         Some(k) => Err(sheet_fault(Cause::Points, from + 4 * k)),

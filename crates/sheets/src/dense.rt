@@ -7,7 +7,7 @@ ghost use Rattle.sheets.specs.Dense.{row_at, is_cell, cell, dense_frame, dense_c
 ghost use Rattle.sheets.specs.Cells.{dense_lawful};
 
 use crate::checks::{ABSENT, Words, check_header, check_words, in_range};
-use crate::fields::{sheet_fault, u32_at};
+use crate::fields::{Field, sheet_fault};
 use crate::kinds::Kind;
 use crate::sheet::{Layout, Sheet};
 use fault::causes::Cause;
@@ -39,7 +39,7 @@ impl Layout for Dense {
         if seat >= size {
             return None;
         }
-        cell_of(u32_at(bytes, row_at(size, run) + 4 * seat))
+        cell_of(u32::at(bytes, row_at(size, run) + 4 * seat))
     }
 
     fn next(bytes: &[u8], size: usize, run: usize, from: usize) -> Option<usize> {

@@ -3,7 +3,7 @@ ghost use Rattle.std.specs.Prelude.{◌≡◌, Some};
 ghost use Rattle.sheets.specs.Codes.{code, kind_name};
 ghost use Rattle.sheets.specs.Kinds.{names_sparse, kind_named};
 
-use crate::fields::u16_at;
+use crate::fields::Field;
 use std::fmt;
 
 // The kinds of sheet, by the code that a header has.
@@ -48,5 +48,5 @@ impl fmt::Display for Kind {
 pub fn names_sparse(bytes: &[u8]) -> bool
     ensures { result ≡ names_sparse bytes.now }
 {
-    4 <= bytes.len() && u16_at(bytes, 2) == Kind::Sparse.code()
+    4 <= bytes.len() && u16::at(bytes, 2) == Kind::Sparse.code()
 }

@@ -6,7 +6,7 @@ ghost use Rattle.sheets.specs.Headers.{size_in};
 ghost use Rattle.sheets.specs.Sparse.{span_limit, row_from, row_len, span_at, span_from, span_len, span_first, span_end, sparse_checks};
 ghost use Rattle.sheets.specs.Seeks.{Rising, Passed, First};
 
-use crate::fields::{u16_at, u32_at};
+use crate::fields::Field;
 
 // A row: how many spans it has, from which one on.
 #[derive(Clone, Copy)]
@@ -29,8 +29,8 @@ pub(crate) fn row_of(bytes: &[u8], run: usize) -> Row
     requires { 8 + 8 * run + 8 ≤ length bytes.now }
     ensures { (result.from ≡ row_from bytes.now run) × (result.len ≡ row_len bytes.now run) }
 {
-    let from = u32_at(bytes, 8 + 8 * run);
-    let len = u32_at(bytes, 12 + 8 * run);
+    let from = u32::at(bytes, 8 + 8 * run);
+    let len = u32::at(bytes, 12 + 8 * run);
     Row { from, len }
 }
 
@@ -66,9 +66,9 @@ pub(crate) fn span_of(bytes: &[u8], size: usize, span: usize) -> Span
     ensures { (result.from ≡ span_from bytes.now span) × (result.len ≡ span_len bytes.now span) × (result.first ≡ span_first bytes.now span) }
 {
     let at = span_at(size, span);
-    let from = u16_at(bytes, at);
-    let len = u16_at(bytes, at + 2);
-    let first = u32_at(bytes, at + 4);
+    let from = u16::at(bytes, at);
+    let len = u16::at(bytes, at + 2);
+    let first = u32::at(bytes, at + 4);
     Span { from, len, first }
 }
 

@@ -9,7 +9,7 @@ ghost use Rattle.sheets.specs.Seeks.{point_by};
 ghost use Rattle.sheets.specs.Ranges.{sparse_lawful};
 
 use crate::checks::{Words, in_range};
-use crate::fields::u32_at;
+use crate::fields::Field;
 use crate::rules::check_sparse;
 use crate::sheet::{Layout, Sheet};
 use crate::spans::{Span, first_over, span_at};
@@ -26,8 +26,8 @@ pub(crate) fn point_word(bytes: &[u8], size: usize, point: usize) -> u32
     requires room { points_at bytes.now + 4 * point + 4 ≤ length bytes.now }
     ensures { result ≡ point_word bytes.now point }
 {
-    let spans = u32_at(bytes, 4) as usize;
-    u32_at(bytes, span_at(size, spans) + 4 * point)
+    let spans = u32::at(bytes, 4) as usize;
+    u32::at(bytes, span_at(size, spans) + 4 * point)
 }
 
 // The points that a span has for a seat below its end, or nothing where it begins after the seat.

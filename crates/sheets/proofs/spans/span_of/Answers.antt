@@ -9,4 +9,4 @@ unfolding span_from span_len span_first
 returns c =
     let bs = c.args.bytes.now in
     let at : c.span_at-at.result ≡ span_at (size_in bs) c.args.span = omega arith in
-    (c.u16_at-from.ensures ∙ ap (le16 bs) at, c.u16_at-len.ensures ∙ ap (λ (a : ℕ). le16 bs (a + 2)) at, c.u32_at-first.ensures ∙ ap (λ (a : ℕ). le32 bs (a + 4)) at)
+    (c.at-from.ensures ∙ ap (le16 bs) at, c.at-len.ensures ∙ ap (λ (a : ℕ). le16 bs (a + 2)) at, c.at-first.ensures ∙ ap (λ (a : ℕ). le32 bs (a + 4)) at)
