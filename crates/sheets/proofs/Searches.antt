@@ -27,6 +27,12 @@ module _ (bs : List ℕ) (j : ℕ) (x : List ℕ) (is : x ≡ take 8 (drop (span
   unfolding span_first
   first_is = ap (λ (b : List ℕ). le32 b 4) is ∙ le32_part bs (span_at (size_in bs) j) 8 4 (omega arith)
 
+-- a call on what is there, said in other words
+pub answered : {X Y : Type 0} (g : Option X) (r : Option Y) (R S : X → Y → Type 0) → MatchOption g (r ≡ None) (λ x. IsSomeAnd r (R x)) → ((x : X) (y : Y) → R x y → S x y) → MatchOption g (r ≡ None) (λ x. IsSomeAnd r (S x))
+answered None r R S h f = h
+answered (Some x) None R S h f = h
+answered (Some x) (Some y) R S h f = f x y h
+
 -- the span of these bytes does not end over the seat
 abbrev pub past : ℕ → List ℕ → Bool
 past seat b = leb (le16 b 0 + le16 b 2) seat

@@ -5,7 +5,7 @@ ghost use Rattle.sheets.specs.Headers.{size_in, spans_in};
 ghost use Rattle.sheets.specs.Sparse.{span_limit, row_from, row_len, span_at, span_from, span_len, span_first, row_end, points_at};
 ghost use Rattle.sheets.specs.Seeks.{SpansAt};
 
-use crate::fields::{Field, bytes_at};
+use crate::fields::Field;
 use crate::spans::{Row, Span, span_at};
 
 // The bytes of a sparse sheet, and how many runs and how many spans it has.
@@ -36,7 +36,7 @@ impl<'a> Frame<'a> {
         ensures { let bs = self.now.bytes.now in (result.from ≡ span_from bs span) × (result.len ≡ span_len bs span) × (result.first ≡ span_first bs span) }
     {
         let at = span_at(self.size, span);
-        Span::read(&bytes_at(self.bytes, at))
+        Span::read(&self.bytes[at..at + 8])
     }
 
     // The first byte of the points.

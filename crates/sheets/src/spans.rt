@@ -1,5 +1,5 @@
 // Rows and spans as they stand in a sparse sheet.
-ghost use Rattle.std.specs.Prelude.{◌≡◌, ◌+◌, ◌≤◌};
+ghost use Rattle.std.specs.Prelude.{◌≡◌, ◌+◌, ◌≤◌, length};
 ghost use Rattle.points.specs.Limits.{size_limit};
 ghost use Rattle.sheets.specs.Bytes.{le16, le32};
 ghost use Rattle.sheets.specs.Sparse.{span_limit, span_at};
@@ -31,8 +31,9 @@ pub(crate) struct Span {
 }
 
 impl Span {
-    // The span that stands in its bytes.
-    pub(crate) fn read(bytes: &[u8; 8]) -> Self
+    // The span that bytes begin with.
+    pub(crate) fn read(bytes: &[u8]) -> Self
+        requires { 8 ≤ length bytes.now }
         ensures { (result.from ≡ le16 bytes.now 0) × (result.len ≡ le16 bytes.now 2) × (result.first ≡ le32 bytes.now 4) }
     {
         Span {

@@ -47,7 +47,7 @@ impl<'a> SparseBytes<'a> {
     {
         let spans = self.frame.row_spans(run);
         let passed = spans.partition_point(|span| Span::read(span).end() <= seat);
-        spans.get(passed).map(Span::read)
+        spans.get(passed).map(|span| Span::read(span))
     }
 
     // The points that a span has for a seat below its end, or nothing where it begins after the seat.
