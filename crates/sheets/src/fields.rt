@@ -11,14 +11,6 @@ use fault::faults::Fault;
 use fault::layers::Layer;
 use std::alloc::Global;
 
-// As many bytes as an array holds, from a byte on.
-pub(crate) fn bytes_at<const N: usize>(bytes: &[u8], at: usize) -> [u8; N]
-    requires { at + N ≤ length bytes.now }
-    ensures { result ≡ take N (drop at bytes.now) }
-{
-    *bytes[at..].first_chunk().unwrap()
-}
-
 // A number as it stands in a file: little-endian.
 pub(crate) trait Field: Copy {
     // how many bytes it takes
@@ -40,6 +32,7 @@ pub(crate) trait Field: Copy {
     ghost local: { (bs : List ℕ) (at : ℕ) → reads (take WIDTH (drop at bs)) 0 ≡ reads bs at };
 }
 
+// No trait of the numbers has from_le_bytes, so each names its own; a slice cut to an array here takes longer, by half or more.
 impl Field for u16 {
     ghost WIDTH = { 2 };
 
@@ -52,7 +45,7 @@ impl Field for u16 {
     ghost local = { le16_alone };
 
     fn at(bytes: &[u8], at: usize) -> u16 {
-        u16::from_le_bytes(bytes_at(bytes, at))
+        u16::from_le_bytes([bytes[at], bytes[at + 1]])
     }
 }
 
@@ -68,7 +61,7 @@ impl Field for u32 {
     ghost local = { le32_alone };
 
     fn at(bytes: &[u8], at: usize) -> u32 {
-        u32::from_le_bytes(bytes_at(bytes, at))
+        u32::from_le_bytes([bytes[at], bytes[at + 1], bytes[at + 2], bytes[at + 3]])
     }
 }
 
@@ -84,7 +77,16 @@ impl Field for u64 {
     ghost local = { le64_alone };
 
     fn at(bytes: &[u8], at: usize) -> u64 {
-        u64::from_le_bytes(bytes_at(bytes, at))
+        u64::from_le_bytes([
+            bytes[at],
+            bytes[at + 1],
+            bytes[at + 2],
+            bytes[at + 3],
+            bytes[at + 4],
+            bytes[at + 5],
+            bytes[at + 6],
+            bytes[at + 7],
+        ])
     }
 }
 

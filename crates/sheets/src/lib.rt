@@ -5,6 +5,7 @@ pub mod certificate_files;
 pub mod checks;
 pub mod dense;
 pub mod fields;
+pub mod frames;
 pub mod kinds;
 pub mod rules;
 pub mod sheet;

@@ -1,18 +1,19 @@
 // Sparse sheets: spans of seats for every run, and the points of the covered seats.
-ghost use Rattle.std.specs.Prelude.{◌≡◌, ◌+◌, ◌-◌, ◌*◌, ◌<◌, ◌≤◌, max, length, refl};
-ghost use Rattle.fault.specs.Checks.{Passes};
+ghost use Rattle.std.specs.Prelude.{◌≡◌, ◌+◌, ◌-◌, ◌*◌, ◌<◌, ◌≤◌, max, true, length, refl};
+ghost use Rattle.fault.specs.Checks.{Passes, kept};
 ghost use Rattle.points.specs.Tables.{Next};
 ghost use Rattle.points.specs.Limits.{size_limit};
 ghost use Rattle.sheets.specs.Headers.{size_in, spans_in, in_range};
 ghost use Rattle.sheets.specs.Sparse.{span_limit, points_at, sparse_checks, point_word, sparse_table};
-ghost use Rattle.sheets.specs.Seeks.{point_by};
+ghost use Rattle.sheets.specs.Seeks.{First, point_by};
 ghost use Rattle.sheets.specs.Ranges.{sparse_lawful};
 
 use crate::checks::{Words, in_range};
 use crate::fields::Field;
+use crate::frames::Frame;
 use crate::rules::check_sparse;
 use crate::sheet::{Layout, Sheet};
-use crate::spans::{Span, first_over, span_at};
+use crate::spans::Span;
 use fault::faults::Fault;
 
 // The layout of sparse sheets.
@@ -20,39 +21,68 @@ pub struct Sparse;
 
 pub type SparseSheet = Sheet<Sparse>;
 
-// The word of a point, by its number.
-pub(crate) fn point_word(bytes: &[u8], size: usize, point: usize) -> u32
-    requires size { (size ≡ size_in bytes.now) × (size ≤ size_limit) × (spans_in bytes.now ≤ span_limit) }
-    requires room { points_at bytes.now + 4 * point + 4 ≤ length bytes.now }
-    ensures { result ≡ point_word bytes.now point }
-{
-    let spans = u32::at(bytes, 4) as usize;
-    u32::at(bytes, span_at(size, spans) + 4 * point)
+// The bytes of a sparse sheet that keep every rule.
+#[derive(Clone, Copy)]
+pub(crate) struct SparseBytes<'a> {
+    frame: Frame<'a>,
+    ghost keeps: { kept (sparse_checks frame.bytes.now) ≡ true },
 }
 
-// The points that a span has for a seat below its end, or nothing where it begins after the seat.
-pub(crate) fn point_of(bytes: &[u8], size: usize, span: Span, seat: usize) -> Option<i32>
-    requires size { (size ≡ size_in bytes.now) × (size ≤ size_limit) × (spans_in bytes.now ≤ span_limit) }
-    requires room { span.from ≤ seat → points_at bytes.now + 4 * (span.first + (seat - span.from)) + 4 ≤ length bytes.now }
-    ensures { result ≡ point_by bytes.now span seat }
-{
-    let from = usize::from(span.from);
-    if from <= seat {
-        let word = point_word(bytes, size, span.first as usize + (seat - from));
-        Some(word.cast_signed())
-    } else {
-        None
+impl<'a> SparseBytes<'a> {
+    // Bytes that have passed the checks, and their size.
+    pub(crate) fn new(bytes: &'a [u8], size: usize) -> Self
+        requires size { size ≡ size_in bytes.now }
+        requires passes { Passes (sparse_checks bytes.now) }
+        ensures { result.frame.bytes.now ≡ bytes.now }
+    {
+        let spans = u32::at(bytes, 4) as usize;
+        SparseBytes {
+            frame: Frame { bytes, size, spans },
+        }
     }
-}
 
-// The points of a run on a seat, or nothing where no span of the run covers the seat.
-pub(crate) fn points_in(bytes: &[u8], size: usize, run: usize, seat: usize) -> Option<i32>
-    requires size { (size ≡ size_in bytes.now) × (run < size) }
-    requires passes { Passes (sparse_checks bytes.now) }
-    ensures { result ≡ (sparse_table bytes.now).points run seat }
-{
-    let span = first_over(bytes, size, run, seat)?;
-    point_of(bytes, size, span, seat)
+    // The first span of a run's row that ends over a seat, or nothing where none does.
+    pub(crate) fn first_over(&self, run: usize, seat: usize) -> Option<Span>
+        requires { run < self.now.frame.size }
+        ensures { First self.now.frame.bytes.now run seat result }
+    {
+        let spans = self.frame.row_spans(run);
+        let passed = spans.partition_point(|span| Span::read(span).end() <= seat);
+        spans.get(passed).map(|span| Span::read(span))
+    }
+
+    // The points that a span has for a seat below its end, or nothing where it begins after the seat.
+    pub(crate) fn point_of(&self, span: Span, seat: usize) -> Option<i32>
+        requires { span.from ≤ seat → points_at self.now.frame.bytes.now + 4 * (span.first + (seat - span.from)) + 4 ≤ length self.now.frame.bytes.now }
+        ensures { result ≡ point_by self.now.frame.bytes.now span seat }
+    {
+        let bytes = self.frame.bytes;
+        let from = usize::from(span.from);
+        if from <= seat {
+            let point = span.first as usize + (seat - from);
+            Some(u32::at(bytes, self.frame.points_at() + 4 * point).cast_signed())
+        } else {
+            None
+        }
+    }
+
+    // The points of a run on a seat, or nothing where no span of the run covers the seat.
+    pub(crate) fn points(&self, run: usize, seat: usize) -> Option<i32>
+        requires { run < self.now.frame.size }
+        ensures { result ≡ (sparse_table self.now.frame.bytes.now).points run seat }
+    {
+        let span = self.first_over(run, seat)?;
+        self.point_of(span, seat)
+    }
+
+    // The lowest covered seat of a run that is at least `from`, or nothing where there is none.
+    pub(crate) fn next(&self, run: usize, from: usize) -> Option<usize>
+        requires { run < self.now.frame.size }
+        ensures { Next (sparse_table self.now.frame.bytes.now) run from result }
+    {
+        let span = self.first_over(run, from)?;
+        Some(reached(span, from))
+    }
 }
 
 // The first seat that a span covers from a seat below its end on.
@@ -60,16 +90,6 @@ pub(crate) fn reached(span: Span, seat: usize) -> usize
     ensures { result ≡ max seat span.from }
 {
     seat.max(usize::from(span.from))
-}
-
-// The lowest covered seat of a run that is at least `from`, or nothing where there is none.
-pub(crate) fn next_in(bytes: &[u8], size: usize, run: usize, from: usize) -> Option<usize>
-    requires size { (size ≡ size_in bytes.now) × (run < size) }
-    requires passes { Passes (sparse_checks bytes.now) }
-    ensures { Next (sparse_table bytes.now) run from result }
-{
-    let span = first_over(bytes, size, run, from)?;
-    Some(reached(span, from))
 }
 
 impl Words for Sparse {
@@ -96,10 +116,10 @@ impl Layout for Sparse {
     }
 
     fn points(bytes: &[u8], size: usize, run: usize, seat: usize) -> Option<i32> {
-        points_in(bytes, size, run, seat)
+        SparseBytes::new(bytes, size).points(run, seat)
     }
 
     fn next(bytes: &[u8], size: usize, run: usize, from: usize) -> Option<usize> {
-        next_in(bytes, size, run, from)
+        SparseBytes::new(bytes, size).next(run, from)
     }
 }

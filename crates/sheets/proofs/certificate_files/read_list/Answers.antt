@@ -1,8 +1,6 @@
-use Rattle.std.proofs.Common.{◌≡◌, ℕ, ◌+◌, ◌-◌, ◌*◌, ◌/◌, ◌<◌, ◌≤◌, List, length, take, drop, vec_items, Result, Option, Some, None, IfOk, IfSome, IsSomeAnd, option_map, slice_index_or, sym, ap, ◌∙◌, arith, rules}
-use Rattle.std.proofs.lemmas.List.{length-take-le, length-drop}
-use Rattle.std.proofs.lemmas.Nat.{div-mul-add}
+use Rattle.std.proofs.Common.{◌≡◌, ℕ, ◌+◌, ◌-◌, ◌*◌, ◌<◌, List, length, take, drop, vec_items, Result, Option, Some, None, IfOk, IfSome, IsSomeAnd, option_map, slice_index_or, sym, ap, ◌∙◌, arith, rules}
 use Rattle.std.proofs.lemmas.Result.{IfOk-weaker}
-use Rattle.sheets.specs.Parts.{part_of_part}
+use Rattle.sheets.specs.Parts.{parts, part}
 use Rattle.sheets.proofs.certificate_files.read_list.Goals as goal
 
 weaker : {X Y : Type 0} (r : Result X Y) (P Q : X → Type 0) → IfOk r P → ((x : X) → P x → Q x) → IfOk r Q
@@ -14,24 +12,6 @@ made None None y R P Q e r p f = cc
 made (Some x) None y R P Q e r p f = cc
 made None (Some z) y R P Q e r p f = absurd r
 made (Some x) (Some z) y R P Q e r p f = let q : z ≡ y = cc e in f x z q r p
-
--- the parts of n numbers of w bytes
-module _ (bs rest : List ℕ) (from w n size : ℕ) (is : rest ≡ take (w * n) (drop from bs)) (one : size ≡ w) (room : from + w * n ≤ length bs) where
-  long : length rest ≡ n * w
-  long = let h : w * n ≤ length (drop from bs) = omega (arith, length-drop from bs) in ap length is ∙ length-take-le (w * n) (drop from bs) h ∙ omega arith
-
-  parts : 0 < w → length rest / size ≡ n
-  parts some = let e : n * w ≡ n * w + 0 = omega arith in ap (λ (k : ℕ). k / size) long ∙ ap (λ (k : ℕ). n * w / k) one ∙ ap (λ (k : ℕ). k / w) e ∙ div-mul-add n w 0 some
-
-  part : (i : ℕ) (x : List ℕ) → i * size + size ≤ length rest → x ≡ take size (drop (i * size) rest) → x ≡ take w (drop (from + w * i) bs)
-  part i x h e =
-      let at : i * size ≡ w * i = ap (λ (k : ℕ). i * k) one ∙ omega arith in
-      let fits : w * i + w ≤ w * n = omega (arith, long, at) in
-      e
-      ∙ ap (λ (k : ℕ). take k (drop (i * size) rest)) one
-      ∙ ap (λ (k : ℕ). take w (drop k rest)) at
-      ∙ ap (λ (l : List ℕ). take w (drop (w * i) l)) is
-      ∙ part_of_part bs from (w * n) (w * i) w fits
 
 pub returns : goal.returns
 returns g c = weaker c.collect.result _ _ c.collect.ensures.runs (λ v h.

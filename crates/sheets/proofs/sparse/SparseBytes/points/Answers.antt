@@ -1,38 +1,38 @@
 use Rattle.std.proofs.Common.{◌≡◌, ℕ, ◌+◌, ◌-◌, ◌<◌, ◌≤◌, leb, Some, None, sym, ap, ◌∙◌, inl, inr, arith}
 use Rattle.std.proofs.lemmas.Bool.{cases_lt, cond-true, cond-false, le-leb, lt-leb}
 use Rattle.sheets.specs.declared.spans.Span.{Span}
+use Rattle.fault.specs.Checks.{Passes}
+use Rattle.fault.proofs.Once.{kept_passes}
 use Rattle.sheets.specs.Headers.{size_in, signed32}
-use Rattle.sheets.specs.Sparse.{span_from, span_first, point_word}
-use Rattle.sheets.specs.Covered.{frame_parts}
+use Rattle.sheets.specs.Sparse.{sparse_checks, span_from, span_first, point_word}
 use Rattle.sheets.specs.Finds.{passed_none, gap_none, over_some}
 use Rattle.sheets.specs.Ranges.{point_room}
-use Rattle.sheets.proofs.sparse.points_in.Goals as goal
+use Rattle.sheets.proofs.sparse.SparseBytes.points.Goals as goal
 
 pub returns-in_err-span : goal.returns-in_err-span
 returns-in_err-span c =
-    let bs = c.args.bytes.now in
+    let bs = c.args.self.now.frame.bytes.now in
+    let ok : Passes (sparse_checks bs) = kept_passes (sparse_checks bs) c.args.self.now.keeps in
     let run : c.args.run < size_in bs = omega arith in
-    rw c.from_residual.ensures (sym (passed_none bs c.requires.passes.1.1.0 c.args.run run c.args.seat c.args.seat (omega arith) c.in_err-span.ensures))
+    rw c.from_residual.ensures (sym (passed_none bs ok.1.1.0 c.args.run run c.args.seat c.args.seat (omega arith) c.in_err-span.ensures))
 
 pub point_of-requires : goal.point_of-requires
 point_of-requires c =
-    let bs = c.args.bytes.now in
+    let bs = c.args.self.now.frame.bytes.now in
+    let ok : Passes (sparse_checks bs) = kept_passes (sparse_checks bs) c.args.self.now.keeps in
     let run : c.args.run < size_in bs = omega arith in
     let f = c.in_ok-span.ensures.1 in
-    let frame = frame_parts bs c.requires.passes.0 in
-    record {
-      size = (c.requires.size.0, omega (arith, frame), frame.2);
-      room = λ h. let from : span_from bs c.in_ok-span.ensures.0 ≤ c.args.seat = omega (arith, f.from) in
-          omega (arith, f.from, f.first, point_room bs c.requires.passes c.args.run c.in_ok-span.ensures.0 c.args.seat run f.low f.high from f.over);
-    }
+    λ h. let from : span_from bs c.in_ok-span.ensures.0 ≤ c.args.seat = omega (arith, f.from) in
+    omega (arith, f.from, f.first, point_room bs ok c.args.run c.in_ok-span.ensures.0 c.args.seat run f.low f.high from f.over)
 
 pub returns : goal.returns
 returns c =
-    let bs = c.args.bytes.now in
+    let bs = c.args.self.now.frame.bytes.now in
+    let ok : Passes (sparse_checks bs) = kept_passes (sparse_checks bs) c.args.self.now.keeps in
     let k = c.args.seat in
     let s : Span = c.in_ok-span.span in
     let run : c.args.run < size_in bs = omega arith in
-    let spans = c.requires.passes.1.1.0 in
+    let spans = ok.1.1.0 in
     let j : ℕ = c.in_ok-span.ensures.0 in
     let f = c.in_ok-span.ensures.1 in
     let at : s.first + (k - s.from) ≡ span_first bs j + (k - span_from bs j) = omega (arith, f.from, f.first) in
