@@ -2,3 +2,4 @@ pub mod Worked
 pub mod Merges
 pub mod Grid
 pub mod Searches
+pub mod Kept
