@@ -1,3 +1,4 @@
 pub mod Worked
 pub mod Merges
 pub mod Searches
+pub mod Chunks
