@@ -1,4 +1,5 @@
 pub mod Worked
 pub mod Merges
+pub mod Grid
 pub mod Searches
 pub mod Chunks

@@ -10,6 +10,7 @@ use crate::fields::sheet_fault;
 use crate::frames::Frame;
 use crate::kinds::Kind;
 use crate::spans::{Span, span_at};
+use crate::sparse::Sparse;
 use fault::causes::Cause;
 use fault::faults::Fault;
 
@@ -132,7 +133,7 @@ pub(crate) fn check_points(bytes: &[u8], from: usize, count: usize) -> Result<()
     ensures { MatchResult result (λ _. Passes (point_checks bytes.now from count)) (λ f. Refuses (point_checks bytes.now from count) f) }
 {
     sheet_fault(Cause::Length, bytes.len()).unless(bytes.len() == from + 4 * count)?;
-    check_words(bytes, from, count, false)
+    check_words::<Sparse>(bytes, from, count)
 }
 
 // Every rule of a sparse sheet, in order; answers the size.

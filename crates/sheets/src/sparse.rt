@@ -3,11 +3,12 @@ ghost use Rattle.std.specs.Prelude.{◌≡◌, ◌+◌, ◌-◌, ◌*◌, ◌<�
 ghost use Rattle.fault.specs.Checks.{Passes, kept};
 ghost use Rattle.points.specs.Tables.{Next};
 ghost use Rattle.points.specs.Limits.{size_limit};
-ghost use Rattle.sheets.specs.Headers.{size_in, spans_in};
+ghost use Rattle.sheets.specs.Headers.{size_in, spans_in, in_range};
 ghost use Rattle.sheets.specs.Sparse.{span_limit, points_at, sparse_checks, point_word, sparse_table};
 ghost use Rattle.sheets.specs.Seeks.{First, point_by};
 ghost use Rattle.sheets.specs.Ranges.{sparse_lawful};
 
+use crate::checks::{Words, in_range};
 use crate::fields::Field;
 use crate::frames::Frame;
 use crate::rules::check_sparse;
@@ -15,7 +16,7 @@ use crate::sheet::{Layout, Sheet};
 use crate::spans::Span;
 use fault::faults::Fault;
 
-// Sparse sheets.
+// The layout of sparse sheets.
 pub struct Sparse;
 
 pub type SparseSheet = Sheet<Sparse>;
@@ -89,6 +90,14 @@ pub(crate) fn reached(span: Span, seat: usize) -> usize
     ensures { result ≡ max seat span.from }
 {
     seat.max(usize::from(span.from))
+}
+
+impl Words for Sparse {
+    ghost takes = { in_range };
+
+    fn takes(word: u32) -> bool {
+        in_range(word)
+    }
 }
 
 impl Layout for Sparse {
