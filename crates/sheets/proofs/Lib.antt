@@ -3,3 +3,4 @@ pub mod Merges
 pub mod Grid
 pub mod Searches
 pub mod Kept
+pub mod Chunks

@@ -1,16 +1,22 @@
--- Spans by their bytes, and a search among the spans of a row.
+-- Spans by their bytes, a search among the spans of a row, and the rules that the bytes keep.
 use Rattle.std.proofs.Common.{◌≡◌, ℕ, ◌+◌, ◌-◌, ◌<◌, ◌≤◌, Bool, true, false, leb, List, [], Bor, Some, None, Option, IfSome, IsSomeAnd, MatchOption, length, take, drop, slice_index_or, sym, subst, ap, ◌∙◌, add-zero, arith}
 use Rattle.std.proofs.lemmas.Bool.{leb-true, leb-false, le-leb}
 use Rattle.std.specs.List.{HoldsAt}
 use Rattle.std.specs.List.Sorted.{IsPartitionedBy, IsPartitionPoint}
 use Rattle.sheets.specs.declared.spans.Span.{Span}
+use Rattle.sheets.specs.declared.sparse.SparseBytes.{SparseBytes}
 use Rattle.fault.specs.Checks.{Passes}
+use Rattle.fault.proofs.Once.{kept_passes}
 use Rattle.sheets.specs.Bytes.{le16, le32}
 use Rattle.sheets.specs.Parts.{le16_part, le32_part}
 use Rattle.sheets.specs.Headers.{size_in}
-use Rattle.sheets.specs.Sparse.{row_from, row_len, span_at, span_from, span_len, span_first, span_end, sparse_spans}
+use Rattle.sheets.specs.Sparse.{row_from, row_len, span_at, span_from, span_len, span_first, span_end, sparse_spans, sparse_checks}
 use Rattle.sheets.specs.Seeks.{SpansAt, Passed, First}
 use Rattle.sheets.specs.Finds.{rising}
+
+-- the bytes of a sheet keep every rule
+pub rules_of : (b : SparseBytes) → Passes (sparse_checks b.frame.bytes.now)
+rules_of b = kept_passes (sparse_checks b.frame.bytes.now) b.keeps
 
 module _ (bs : List ℕ) (j : ℕ) (x : List ℕ) (is : x ≡ take 8 (drop (span_at (size_in bs) j) bs)) where
   pub from_is : le16 x 0 ≡ span_from bs j

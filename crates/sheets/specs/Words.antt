@@ -1,4 +1,4 @@
--- Fields of no bytes are 0, words of points are in range, and numbers are read one after the other.
+-- Fields of no bytes are 0, and words of points are in range.
 use Rattle.std.specs.Prelude.{◌≡◌, ℕ, ◌<◌, true, List, [], ◌∷◌, length, pos, neg_ℤ, ◌≤ℤ◌, int_le, refl}
 use Rattle.std.proofs.Common.{arith}
 use Rattle.std.proofs.lemmas.Int.{ints}

@@ -1,5 +1,5 @@
 // Certificate files: the seats of all runs, and then the prices of all seats.
-ghost use Rattle.std.specs.Prelude.{◌≡◌, ℕ, ◌+◌, ◌*◌, ◌<◌, ◌≤◌, length, IfOk, MatchResult};
+ghost use Rattle.std.specs.Prelude.{◌≡◌, ℕ, ◌*◌, ◌/◌, length, IfOk, MatchResult};
 ghost use Rattle.sheets.specs.declared.certificate_files.Unreadable.TheVariants.{Memory};
 ghost use Rattle.sheets.specs.CertificateFiles.{Reads, Holds, Unread};
 
@@ -25,28 +25,22 @@ pub enum Unreadable {
     Memory,
 }
 
-// Numbers one after the other, from a byte on.
-pub(crate) fn read_list<T: Field>(
-    heap: Global,
-    bytes: &[u8],
-    from: usize,
-    count: usize,
-) -> Result<Vec<T>, AllocError>
-    requires { from + T.WIDTH * count ≤ length bytes.now }
-    ensures { IfOk result (λ v. Reads (λ k. T.reads bytes.now (from + T.WIDTH * k)) count v.items) }
-{
-    bytes[from..from + T::WIDTH * count]
-        .chunks_exact(T::WIDTH)
-        .map(|number| T::at(number, 0))
-        .collect(heap)
-}
-
 impl From<AllocError> for Unreadable {
     ghost from_gives = { λ _ e. e ≡ Memory };
 
     fn from(_refused: AllocError) -> Unreadable {
         Unreadable::Memory
     }
+}
+
+// The numbers that stand in bytes, one after the other.
+pub(crate) fn read_list<T: Field>(heap: Global, bytes: &[u8]) -> Result<Vec<T>, AllocError>
+    ensures { IfOk result (λ v. Reads (λ k. T.reads bytes.now (T.WIDTH * k)) (length bytes.now / T.WIDTH) v.items) }
+{
+    bytes
+        .chunks_exact(T::WIDTH)
+        .map(|number| T::at(number, 0))
+        .collect(heap)
 }
 
 // The certificate of a file.
@@ -57,7 +51,9 @@ pub fn read_certificate(heap: Global, bytes: &[u8]) -> Result<Certificate, Unrea
         return Err(Unreadable::Length);
     }
     let size = bytes.len() / RUN_BYTES;
-    let seats = read_list(heap, bytes, 0, size)?;
-    let prices = read_list(heap, bytes, 2 * size, size)?;
-    Ok(Certificate { seats, prices })
+    let (seats, prices) = bytes.split_at(2 * size);
+    Ok(Certificate {
+        seats: read_list(heap, seats)?,
+        prices: read_list(heap, prices)?,
+    })
 }

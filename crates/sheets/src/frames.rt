@@ -21,6 +21,7 @@ pub(crate) struct Frame<'a> {
 
 impl<'a> Frame<'a> {
     // The row of a run.
+    #[tactic(auto, unfolding(crate::specs::Sparse::row_from, crate::specs::Sparse::row_len))]
     pub(crate) fn row(&self, run: usize) -> Row
         requires { run < self.now.size }
         ensures { let bs = self.now.bytes.now in (result.from ≡ row_from bs run) × (result.len ≡ row_len bs run) }

@@ -31,19 +31,19 @@ pub(crate) fn check_frame(bytes: &[u8]) -> Result<Frame<'_>, Fault>
     Ok(Frame { bytes, size, spans })
 }
 
-// Whether a row may end there: the last row at the span count, and any other at most there.
-pub(crate) fn ends_well(size: usize, run: usize, end: usize, spans: usize) -> bool
-    requires { run < size }
-    ensures { result ≡ ends_well size run end spans }
-{
-    if run + 1 == size {
-        end == spans
-    } else {
-        end <= spans
-    }
-}
-
 impl Frame<'_> {
+    // Whether a row may end there: the last row at the span count, and any other at most there.
+    pub(crate) fn ends_well(&self, run: usize, end: usize) -> bool
+        requires { run < self.now.size }
+        ensures { result ≡ ends_well self.now.size run end self.now.spans }
+    {
+        if run + 1 == self.size {
+            end == self.spans
+        } else {
+            end <= self.spans
+        }
+    }
+
     // The row of a run, after a row that ended at `before`; answers its end.
     pub(crate) fn check_row(&self, run: usize, before: usize) -> Result<usize, Fault>
         requires { run < self.now.size }
@@ -53,12 +53,7 @@ impl Frame<'_> {
     {
         let row = self.row(run);
         sheet_fault(Cause::Spans, 8 + 8 * run).unless(row.from as usize == before)?;
-        sheet_fault(Cause::Spans, 12 + 8 * run).unless(ends_well(
-            self.size,
-            run,
-            row.end(),
-            self.spans,
-        ))?;
+        sheet_fault(Cause::Spans, 12 + 8 * run).unless(self.ends_well(run, row.end()))?;
         Ok(row.end())
     }
 
@@ -66,6 +61,7 @@ impl Frame<'_> {
     pub(crate) fn check_rows(&self) -> Result<(), Fault>
         ensures { MatchResult result (λ _. Passes (sparse_rows self.now.bytes.now)) (λ f. Refuses (sparse_rows self.now.bytes.now) f) }
     {
+        // a `for`, since `try_fold` does not say which end it hands to each row
         let mut end = 0;
         for run in 0..self.size {
             end = self.check_row(run, end)?;
@@ -104,6 +100,7 @@ impl Frame<'_> {
     {
         let row = self.row(run);
         let first = row.from as usize;
+        // a `for`, since `try_fold` does not say which end and which points it hands to each span
         let mut end = 0;
         let mut covered = covered;
         for place in 0..row.len as usize {
@@ -121,6 +118,7 @@ impl Frame<'_> {
             (λ c. let bs = self.now.bytes.now in Passes (sparse_spans bs) × (c ≡ covered_before bs (spans_in bs)) × (c ≤ 16777216))
             (λ f. Refuses (sparse_spans self.now.bytes.now) f) }
     {
+        // a `for`, since `try_fold` does not say which points it hands to each row
         let mut covered = 0;
         for run in 0..self.size {
             covered = self.check_row_spans(run, covered)?;

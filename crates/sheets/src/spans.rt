@@ -1,5 +1,5 @@
 // Rows and spans as they stand in a sparse sheet.
-ghost use Rattle.std.specs.Prelude.{◌≡◌, ◌+◌, ◌≤◌, length};
+ghost use Rattle.std.specs.Prelude.{◌≡◌, ◌+◌, ◌≤◌, length, nat_le};
 ghost use Rattle.points.specs.Limits.{size_limit};
 ghost use Rattle.sheets.specs.Bytes.{le16, le32};
 ghost use Rattle.sheets.specs.Sparse.{span_limit, span_at};
@@ -48,6 +48,13 @@ impl Span {
         ensures { result ≡ self.from + self.len }
     {
         usize::from(self.from) + usize::from(self.len)
+    }
+
+    // Whether the span ends at a seat, or before it.
+    pub(crate) fn ends_by(self, seat: usize) -> bool
+        ensures { result ≡ nat_le (self.from + self.len) seat }
+    {
+        self.end() <= seat
     }
 }
 

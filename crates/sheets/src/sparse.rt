@@ -47,7 +47,7 @@ impl<'a> SparseBytes<'a> {
         ensures { First self.now.frame.bytes.now run seat result }
     {
         let spans = self.frame.row_spans(run);
-        let passed = spans.partition_point(|span| Span::read(span).end() <= seat);
+        let passed = spans.partition_point(|span| Span::read(span).ends_by(seat));
         spans.get(passed).map(|span| Span::read(span))
     }
 

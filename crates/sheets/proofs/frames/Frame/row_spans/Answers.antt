@@ -1,7 +1,7 @@
 use Rattle.std.proofs.Common.{◌≡◌, ℕ, ◌+◌, ◌-◌, ◌*◌, ◌/◌, ◌≤◌, List, length, take, drop, slice_index_or, ap, ◌∙◌, arith}
 use Rattle.sheets.specs.Headers.{size_in}
 use Rattle.sheets.specs.Sparse.{row_from, row_len, span_at}
-use Rattle.sheets.specs.Parts.{parts, part, chunk_at}
+use Rattle.sheets.proofs.Chunks.{parts, part, chunk_at}
 use Rattle.sheets.proofs.frames.Frame.row_spans.Goals as goal
 
 pub returns : goal.returns

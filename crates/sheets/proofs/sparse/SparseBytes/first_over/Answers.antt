@@ -1,24 +1,21 @@
 use Rattle.std.proofs.Common.{◌<◌, arith, rules}
 use Rattle.std.proofs.lemmas.List.Sorted.{IsPartitionPoint-from_clause}
-use Rattle.fault.specs.Checks.{Passes}
-use Rattle.fault.proofs.Once.{kept_passes}
 use Rattle.sheets.specs.Headers.{size_in}
-use Rattle.sheets.specs.Sparse.{sparse_checks}
 use Rattle.sheets.specs.Covered.{row_end_lem}
-use Rattle.sheets.proofs.Searches.{answered, past, partitioned, found}
+use Rattle.sheets.proofs.Searches.{rules_of, answered, past, partitioned, found}
 use Rattle.sheets.proofs.sparse.SparseBytes.first_over.Goals as goal
 
 pub row_spans-spans-requires-clause-row : goal.row_spans-spans-requires-clause-row
 row_spans-spans-requires-clause-row c =
     let bs = c.args.self.now.frame.bytes.now in
-    let ok : Passes (sparse_checks bs) = kept_passes (sparse_checks bs) c.args.self.now.keeps in
+    let ok = rules_of c.args.self.now in
     let run : c.args.run < size_in bs = omega arith in
     omega (arith, row_end_lem bs ok.1.0 c.args.run run)
 
 pub returns : goal.returns
 returns c =
     let bs = c.args.self.now.frame.bytes.now in
-    let ok : Passes (sparse_checks bs) = kept_passes (sparse_checks bs) c.args.self.now.keeps in
+    let ok = rules_of c.args.self.now in
     let run : c.args.run < size_in bs = omega arith in
     let seat = c.args.seat in
     let xs = c.row_spans-spans.result.now in

@@ -1,22 +1,21 @@
 use Rattle.std.proofs.Common.{◌≡◌, ℕ, ◌<◌, ◌≤◌, max, is_some, ap, arith}
-use Rattle.fault.specs.Checks.{Passes}
-use Rattle.fault.proofs.Once.{kept_passes}
 use Rattle.sheets.specs.Headers.{size_in}
-use Rattle.sheets.specs.Sparse.{sparse_checks, span_from, span_len}
+use Rattle.sheets.specs.Sparse.{span_from, span_len}
 use Rattle.sheets.specs.Finds.{span_fields, passed_none, gap_none, over_some}
+use Rattle.sheets.proofs.Searches.{rules_of}
 use Rattle.sheets.proofs.sparse.SparseBytes.next.Goals as goal
 
 pub returns-in_err-span : goal.returns-in_err-span
 returns-in_err-span c =
     let bs = c.args.self.now.frame.bytes.now in
-    let ok : Passes (sparse_checks bs) = kept_passes (sparse_checks bs) c.args.self.now.keeps in
+    let ok = rules_of c.args.self.now in
     let run : c.args.run < size_in bs = omega arith in
     rw c.from_residual.ensures (λ k h. passed_none bs ok.1.1.0 c.args.run run k c.args.from h c.in_err-span.ensures)
 
 pub returns : goal.returns
 returns c =
     let bs = c.args.self.now.frame.bytes.now in
-    let ok : Passes (sparse_checks bs) = kept_passes (sparse_checks bs) c.args.self.now.keeps in
+    let ok = rules_of c.args.self.now in
     let run : c.args.run < size_in bs = omega arith in
     let spans = ok.1.1.0 in
     let j : ℕ = c.in_ok-span.ensures.0 in

@@ -1,25 +1,24 @@
 use Rattle.std.proofs.Common.{◌≡◌, ℕ, ◌+◌, ◌-◌, ◌<◌, ◌≤◌, leb, Some, None, sym, ap, ◌∙◌, inl, inr, arith}
 use Rattle.std.proofs.lemmas.Bool.{cases_lt, cond-true, cond-false, le-leb, lt-leb}
 use Rattle.sheets.specs.declared.spans.Span.{Span}
-use Rattle.fault.specs.Checks.{Passes}
-use Rattle.fault.proofs.Once.{kept_passes}
 use Rattle.sheets.specs.Headers.{size_in, signed32}
-use Rattle.sheets.specs.Sparse.{sparse_checks, span_from, span_first, point_word}
+use Rattle.sheets.specs.Sparse.{span_from, span_first, point_word}
 use Rattle.sheets.specs.Finds.{passed_none, gap_none, over_some}
 use Rattle.sheets.specs.Ranges.{point_room}
+use Rattle.sheets.proofs.Searches.{rules_of}
 use Rattle.sheets.proofs.sparse.SparseBytes.points.Goals as goal
 
 pub returns-in_err-span : goal.returns-in_err-span
 returns-in_err-span c =
     let bs = c.args.self.now.frame.bytes.now in
-    let ok : Passes (sparse_checks bs) = kept_passes (sparse_checks bs) c.args.self.now.keeps in
+    let ok = rules_of c.args.self.now in
     let run : c.args.run < size_in bs = omega arith in
     rw c.from_residual.ensures (sym (passed_none bs ok.1.1.0 c.args.run run c.args.seat c.args.seat (omega arith) c.in_err-span.ensures))
 
 pub point_of-requires : goal.point_of-requires
 point_of-requires c =
     let bs = c.args.self.now.frame.bytes.now in
-    let ok : Passes (sparse_checks bs) = kept_passes (sparse_checks bs) c.args.self.now.keeps in
+    let ok = rules_of c.args.self.now in
     let run : c.args.run < size_in bs = omega arith in
     let f = c.in_ok-span.ensures.1 in
     λ h. let from : span_from bs c.in_ok-span.ensures.0 ≤ c.args.seat = omega (arith, f.from) in
@@ -28,7 +27,7 @@ point_of-requires c =
 pub returns : goal.returns
 returns c =
     let bs = c.args.self.now.frame.bytes.now in
-    let ok : Passes (sparse_checks bs) = kept_passes (sparse_checks bs) c.args.self.now.keeps in
+    let ok = rules_of c.args.self.now in
     let k = c.args.seat in
     let s : Span = c.in_ok-span.span in
     let run : c.args.run < size_in bs = omega arith in
