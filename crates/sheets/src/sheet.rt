@@ -1,5 +1,5 @@
 // Sheets of any layout: bytes that keep every rule, and the points that they hold.
-ghost use Rattle.std.specs.Prelude.{◌≡◌, ℕ, ◌<◌, true, [], Bool, List, length, MatchResult};
+ghost use Rattle.std.specs.Prelude.{◌≡◌, ℕ, ◌<◌, true, [], List, length, MatchResult};
 ghost use Rattle.fault.specs.Checks.{Checks, Passes, Refuses, kept};
 ghost use Rattle.points.specs.Tables.{Table, Lawful, Next};
 ghost use Rattle.sheets.specs.Headers.{size_in, sheet_top};
