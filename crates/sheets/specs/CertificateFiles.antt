@@ -1,14 +1,14 @@
 -- Certificate files: the seats of n runs, two bytes each, and then the prices of n seats, eight bytes each.
-use Rattle.std.specs.Prelude.{◌≡◌, ℕ, ◌+◌, ◌*◌, ◌%◌, ◌<◌, List, length, vec_items, slice_index}
+use Rattle.std.specs.Prelude.{◌≡◌, ℕ, ◌+◌, ◌*◌, ◌%◌, ◌<◌, List, length, vec_items, slice_index_or}
 use Rattle.sheets.specs.declared.certificate_files.Certificate.{Certificate}
 use Rattle.sheets.specs.declared.certificate_files.Unreadable.{Unreadable}
 use Rattle.sheets.specs.declared.certificate_files.Unreadable.TheVariants.{Length, Memory}
 use Rattle.sheets.specs.Bytes.{le16, le64}
 
--- a list of the first m numbers that f gives
-pub record Reads (f : ℕ → ℕ) (m : ℕ) (xs : List ℕ) : Type 0 where
+-- a list of the first m values that f gives
+pub record Reads {X : Type 0} (f : ℕ → X) (m : ℕ) (xs : List X) : Type 0 where
   pub long : length xs ≡ m
-  pub each : (i : ℕ) → i < m → slice_index xs i ≡ f i
+  pub each : (i : ℕ) (d : X) → i < m → slice_index_or xs i d ≡ f i
 
 -- the first m seats of a file
 abbrev pub SeatsIn : List ℕ → ℕ → List ℕ → Type 0

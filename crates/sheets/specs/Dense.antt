@@ -1,25 +1,31 @@
 -- Dense sheets: a header, and then the points of every run on every seat, run by run.
-use Rattle.std.specs.Prelude.{ℕ, ◌+◌, ◌*◌, true, cond, ◌&&◌, List, length, ℤ, Some, None, Option, ◌==◌, nat_lt}
+use Rattle.std.specs.Prelude.{ℕ, ◌+◌, ◌*◌, Bool, cond, ◌&&◌, ◌||◌, List, length, ℤ, Some, None, Option, ◌==◌, nat_lt}
 use Rattle.fault.specs.declared.causes.Cause.TheVariants.{Length, Spans}
 use Rattle.fault.specs.Checks.{Checks, test, each, ◌then◌}
 use Rattle.points.specs.Tables.{Table}
+use Rattle.sheets.specs.declared.kinds.Kind.TheVariants.{Dense}
 use Rattle.sheets.specs.Bytes.{le32}
-use Rattle.sheets.specs.Headers.{size_in, spans_in, sheet_top, sheet_fault, header_checks, signed32, absent, word_checks}
+use Rattle.sheets.specs.Codes.{code}
+use Rattle.sheets.specs.Headers.{size_in, spans_in, sheet_top, sheet_fault, header_checks, signed32, absent, in_range, word_checks}
 
 -- the first byte of the points of run i, at size n
 abbrev pub row_at : ℕ → ℕ → ℕ
 row_at n i = 8 + 4 * (n * i)
 
+-- a word is the mark of a pair that is not allowed, or points in range
+abbrev pub is_cell : ℕ → Bool
+is_cell w = w == absent || in_range w
+
 -- the header, no spans, and the exact length
 abbrev pub dense_frame : List ℕ → Checks
 dense_frame bs =
-    header_checks 0 bs
+    header_checks (code Dense) bs
     then test (spans_in bs == 0) (sheet_fault Spans 4)
     then test (length bs == 8 + 4 * (size_in bs * size_in bs)) (sheet_fault Length (length bs))
 
 -- the points of every run
 abbrev pub dense_cells : List ℕ → Checks
-dense_cells bs = each (size_in bs) (λ i. word_checks true bs (row_at (size_in bs) i) (size_in bs))
+dense_cells bs = each (size_in bs) (λ i. word_checks is_cell bs (row_at (size_in bs) i) (size_in bs))
 
 -- the rules of a dense sheet, in the order in which they are checked
 abbrev pub dense_checks : List ℕ → Checks

@@ -1,5 +1,5 @@
 -- The header that every sheet begins with, and points as they stand in a sheet.
-use Rattle.std.specs.Prelude.{ℕ, ◌+◌, ◌*◌, Bool, ◌&&◌, ◌||◌, List, length, ℤ, pos, neg_ℤ, ◌==◌, int_le, nat_le}
+use Rattle.std.specs.Prelude.{ℕ, ◌+◌, ◌*◌, Bool, ◌&&◌, List, length, ℤ, pos, neg_ℤ, ◌==◌, int_le, nat_le}
 use Rattle.std.specs.Int.{w32}
 use Rattle.std.proofs.Common.{to_z}
 use Rattle.fault.specs.declared.causes.Cause.{Cause}
@@ -48,10 +48,6 @@ in_range w = int_le (neg_ℤ (pos sheet_top)) (signed32 w) && int_le (signed32 w
 abbrev pub absent : ℕ
 absent = 2147483648
 
--- a word is points in range or, where marks are taken, the mark of a pair that is not allowed
-abbrev pub taken : Bool → ℕ → Bool
-taken marks w = (marks && w == absent) || in_range w
-
--- words one after the other, from a byte on
-abbrev pub word_checks : Bool → List ℕ → ℕ → ℕ → Checks
-word_checks marks bs from count = each count (λ k. test (taken marks (le32 bs (from + 4 * k))) (sheet_fault Points (from + 4 * k)))
+-- words one after the other, from a byte on, each of which is taken
+abbrev pub word_checks : (ℕ → Bool) → List ℕ → ℕ → ℕ → Checks
+word_checks takes bs from count = each count (λ k. test (takes (le32 bs (from + 4 * k))) (sheet_fault Points (from + 4 * k)))

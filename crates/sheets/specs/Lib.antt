@@ -1,7 +1,9 @@
 pub mod Bytes
+pub mod Codes
 pub mod Headers
 pub mod Dense
 pub mod Kinds
+pub mod Any
 pub mod CertificateFiles
 pub mod Sparse
 pub mod Seeks
@@ -9,6 +11,7 @@ pub mod Merging
 pub mod Examples
 pub mod Cells
 pub mod Words
+pub mod Parts
 pub mod Ranges
 pub mod Covered
 pub mod Finds

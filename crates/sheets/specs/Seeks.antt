@@ -1,8 +1,8 @@
 -- What a search among the spans of a row finds.
-use Rattle.std.specs.Prelude.{◌≡◌, ℕ, ◌+◌, ◌-◌, ◌<◌, ◌≤◌, cond, List, ℤ, Some, None, Option, nat_le}
+use Rattle.std.specs.Prelude.{◌≡◌, ℕ, ◌+◌, ◌-◌, ◌<◌, ◌≤◌, cond, List, length, take, drop, slice_index_or, ℤ, Some, None, Option, nat_le}
 use Rattle.sheets.specs.declared.spans.Span.{Span}
-use Rattle.sheets.specs.Headers.{signed32}
-use Rattle.sheets.specs.Sparse.{row_from, row_end, span_from, span_len, span_first, span_end, point_word}
+use Rattle.sheets.specs.Headers.{size_in, signed32}
+use Rattle.sheets.specs.Sparse.{row_from, row_end, span_at, span_from, span_len, span_first, span_end, point_word}
 
 -- the spans from one on, up to another, end one after the other
 abbrev pub Rising : List ℕ → ℕ → ℕ → Type 0
@@ -11,6 +11,11 @@ Rising bs from to = (q m : ℕ) → from ≤ q → q ≤ m → m < to → span_e
 -- the spans from one on, up to another, do not end over seat k
 abbrev pub Passed : List ℕ → ℕ → ℕ → ℕ → Type 0
 Passed bs from to k = (q : ℕ) → from ≤ q → q < to → span_end bs q ≤ k
+
+-- xs are the bytes of n spans, one span after the other, from span j on
+pub record SpansAt (bs : List ℕ) (j n : ℕ) (xs : List (List ℕ)) : Type 0 where
+  pub long : length xs ≡ n
+  pub each : (d : ℕ) (z : List ℕ) → d < n → slice_index_or xs d z ≡ take 8 (drop (span_at (size_in bs) (j + d)) bs)
 
 -- span j of row i is the first to end over seat k, and s has its fields
 pub record Found (bs : List ℕ) (i k : ℕ) (s : Span) (j : ℕ) : Type 0 where

@@ -1,11 +1,13 @@
 -- Sparse sheets: a header, a row for each run, the spans of the rows, and then the points of the covered seats.
-use Rattle.std.specs.Prelude.{ℕ, zero, suc, ◌+◌, ◌-◌, ◌*◌, Bool, false, cond, ◌&&◌, List, length, ℤ, Some, None, Option, ◌==◌, nat_le, nat_lt}
+use Rattle.std.specs.Prelude.{ℕ, zero, suc, ◌+◌, ◌-◌, ◌*◌, Bool, cond, ◌&&◌, List, length, ℤ, Some, None, Option, ◌==◌, nat_le, nat_lt}
 use Rattle.fault.specs.declared.causes.Cause.TheVariants.{Length, Spans}
 use Rattle.fault.specs.Checks.{Checks, test, each, ◌then◌}
 use Rattle.points.specs.Sums.{sum}
 use Rattle.points.specs.Tables.{Table}
+use Rattle.sheets.specs.declared.kinds.Kind.TheVariants.{Sparse}
 use Rattle.sheets.specs.Bytes.{le16, le32}
-use Rattle.sheets.specs.Headers.{size_in, spans_in, sheet_top, sheet_fault, header_checks, signed32, word_checks}
+use Rattle.sheets.specs.Codes.{code}
+use Rattle.sheets.specs.Headers.{size_in, spans_in, sheet_top, sheet_fault, header_checks, signed32, in_range, word_checks}
 
 -- no sheet has more spans than this
 abbrev pub span_limit : ℕ
@@ -64,7 +66,7 @@ points_at bs = span_at (size_in bs) (spans_in bs)
 -- the header, a span count within the limit, and room for the rows and the spans
 abbrev pub sparse_frame : List ℕ → Checks
 sparse_frame bs =
-    header_checks 1 bs
+    header_checks (code Sparse) bs
     then test (nat_le (spans_in bs) span_limit) (sheet_fault Spans 4)
     then test (nat_le (points_at bs) (length bs)) (sheet_fault Length (length bs))
 
@@ -101,7 +103,7 @@ sparse_spans bs = each (size_in bs) (λ i. row_spans bs i)
 abbrev pub point_checks : List ℕ → ℕ → ℕ → Checks
 point_checks bs from count =
     test (length bs == from + 4 * count) (sheet_fault Length (length bs))
-    then word_checks false bs from count
+    then word_checks in_range bs from count
 
 -- a point for each covered seat
 abbrev pub sparse_points : List ℕ → Checks

@@ -1,9 +1,9 @@
 // Certificate files: the seats of all runs, and then the prices of all seats.
-ghost use Rattle.std.specs.Prelude.{◌≡◌, ℕ, ◌+◌, ◌*◌, ◌<◌, ◌≤◌, length, IfOk, MatchResult};
-ghost use Rattle.sheets.specs.Bytes.{le64};
-ghost use Rattle.sheets.specs.CertificateFiles.{SeatsIn, PricesIn, Holds, Unread};
+ghost use Rattle.std.specs.Prelude.{◌≡◌, ℕ, ◌*◌, ◌/◌, length, IfOk, MatchResult};
+ghost use Rattle.sheets.specs.declared.certificate_files.Unreadable.TheVariants.{Memory};
+ghost use Rattle.sheets.specs.CertificateFiles.{Reads, Holds, Unread};
 
-use crate::fields::{u16_at, u32_at};
+use crate::fields::Field;
 use std::alloc::{AllocError, Global};
 
 // The bytes of one run: two for its seat, and eight for the price of the seat of its number.
@@ -25,41 +25,22 @@ pub enum Unreadable {
     Memory,
 }
 
-// The number of 64 bits at a byte.
-pub(crate) fn u64_at(bytes: &[u8], at: usize) -> u64
-    requires { at + 8 ≤ length bytes.now }
-    ensures { result ≡ le64 bytes.now at }
-{
-    u64::from(u32_at(bytes, at)) + u64::from(u32_at(bytes, at + 4)) * 4_294_967_296
+impl From<AllocError> for Unreadable {
+    ghost from_gives = { λ _ e. e ≡ Memory };
+
+    fn from(_refused: AllocError) -> Unreadable {
+        Unreadable::Memory
+    }
 }
 
-// The seats of the first runs.
-pub(crate) fn read_seats(heap: Global, bytes: &[u8], size: usize) -> Result<Vec<u16>, AllocError>
-    requires { 2 * size ≤ length bytes.now }
-    ensures { IfOk result (λ v. SeatsIn bytes.now size v.items) }
+// The numbers that stand in bytes, one after the other.
+pub(crate) fn read_list<T: Field>(heap: Global, bytes: &[u8]) -> Result<Vec<T>, AllocError>
+    ensures { IfOk result (λ v. Reads (λ k. T.reads bytes.now (T.WIDTH * k)) (length bytes.now / T.WIDTH) v.items) }
 {
-    let mut seats = Vec::new(heap);
-    for run in 0..size {
-        seats.push(u16_at(bytes, 2 * run))?;
-    }
-    Ok(seats)
-}
-
-// The prices of the first seats, from a byte on.
-pub(crate) fn read_prices(
-    heap: Global,
-    bytes: &[u8],
-    from: usize,
-    size: usize,
-) -> Result<Vec<u64>, AllocError>
-    requires { from + 8 * size ≤ length bytes.now }
-    ensures { IfOk result (λ v. PricesIn bytes.now from size v.items) }
-{
-    let mut prices = Vec::new(heap);
-    for seat in 0..size {
-        prices.push(u64_at(bytes, from + 8 * seat))?;
-    }
-    Ok(prices)
+    bytes
+        .chunks_exact(T::WIDTH)
+        .map(|number| T::at(number, 0))
+        .collect(heap)
 }
 
 // The certificate of a file.
@@ -70,11 +51,9 @@ pub fn read_certificate(heap: Global, bytes: &[u8]) -> Result<Certificate, Unrea
         return Err(Unreadable::Length);
     }
     let size = bytes.len() / RUN_BYTES;
-    let Ok(seats) = read_seats(heap, bytes, size) else {
-        return Err(Unreadable::Memory);
-    };
-    let Ok(prices) = read_prices(heap, bytes, 2 * size, size) else {
-        return Err(Unreadable::Memory);
-    };
-    Ok(Certificate { seats, prices })
+    let (seats, prices) = bytes.split_at(2 * size);
+    Ok(Certificate {
+        seats: read_list(heap, seats)?,
+        prices: read_list(heap, prices)?,
+    })
 }

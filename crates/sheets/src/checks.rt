@@ -1,11 +1,11 @@
 // Checks that every kind of sheet shares: the header, and words of points.
-ghost use Rattle.std.specs.Prelude.{◌≡◌, ◌+◌, ◌*◌, ◌<◌, ◌≤◌, true, false, length, MatchResult};
+ghost use Rattle.std.specs.Prelude.{◌≡◌, ℕ, ◌+◌, ◌*◌, ◌<◌, ◌≤◌, Bool, length, MatchResult};
 ghost use Rattle.fault.specs.Checks.{Passes, Refuses};
-ghost use Rattle.fault.specs.declared.causes.Cause.TheVariants.{Points};
-ghost use Rattle.sheets.specs.Bytes.{le32};
-ghost use Rattle.sheets.specs.Headers.{size_in, spans_in, sheet_fault, header_checks, in_range, taken, word_checks};
+ghost use Rattle.sheets.specs.Codes.{code};
+ghost use Rattle.sheets.specs.Headers.{size_in, spans_in, sheet_fault, header_checks, in_range, word_checks};
 
-use crate::fields::{Header, read_header, sheet_fault, u32_at};
+use crate::fields::{Field, Header, read_header, sheet_fault};
+use crate::kinds::Kind;
 use fault::causes::Cause;
 use fault::faults::Fault;
 use points::limits::SIZE_LIMIT;
@@ -17,13 +17,13 @@ pub const SHEET_TOP: i32 = 1_000_000;
 pub(crate) const ABSENT: u32 = 0x8000_0000;
 
 // The header of a sheet of a kind, with a size from 1 to the limit.
-pub(crate) fn check_header(bytes: &[u8], kind: u16) -> Result<Header, Fault>
+pub(crate) fn check_header(bytes: &[u8], kind: Kind) -> Result<Header, Fault>
     ensures { MatchResult result
-        (λ h. Passes (header_checks kind bytes.now) × (h.size ≡ size_in bytes.now) × (h.spans ≡ spans_in bytes.now))
-        (λ f. Refuses (header_checks kind bytes.now) f) }
+        (λ h. Passes (header_checks (code kind) bytes.now) × (h.size ≡ size_in bytes.now) × (h.spans ≡ spans_in bytes.now))
+        (λ f. Refuses (header_checks (code kind) bytes.now) f) }
 {
     let header = read_header(bytes)?;
-    sheet_fault(Cause::Kind, 2).unless(header.kind == kind)?;
+    sheet_fault(Cause::Kind, 2).unless(header.kind == kind.code())?;
     sheet_fault(Cause::Size, 0).unless(1 <= header.size && usize::from(header.size) <= SIZE_LIMIT)?;
     Ok(header)
 }
@@ -32,32 +32,25 @@ pub(crate) fn check_header(bytes: &[u8], kind: u16) -> Result<Header, Fault>
 pub(crate) fn in_range(word: u32) -> bool
     ensures { result ≡ in_range word }
 {
-    let points = word.cast_signed();
-    -SHEET_TOP <= points && points <= SHEET_TOP
+    (-SHEET_TOP..=SHEET_TOP).contains(&word.cast_signed())
 }
 
-// Whether a word is points in range or, where marks are taken, the mark of a pair that is not allowed.
-pub(crate) fn is_taken(marks: bool, word: u32) -> bool
-    ensures { result ≡ taken marks word }
-{
-    marks && word == ABSENT || in_range(word)
-}
+// Which words may stand among the points of a kind of sheet.
+pub(crate) trait Words {
+    ghost takes: { ℕ → Bool };
 
-// One word of points.
-pub(crate) fn check_word(bytes: &[u8], at: usize, marks: bool) -> Result<(), Fault>
-    requires { at + 4 ≤ length bytes.now }
-    ensures { MatchResult result (λ _. taken marks (le32 bytes.now at) ≡ true) (λ f. (taken marks (le32 bytes.now at) ≡ false) × (f ≡ sheet_fault Points at)) }
-{
-    sheet_fault(Cause::Points, at).unless(is_taken(marks, u32_at(bytes, at)))
+    fn takes(word: u32) -> bool
+        ensures { result ≡ takes word };
 }
 
 // Words of points one after the other, from a byte on.
-pub(crate) fn check_words(bytes: &[u8], from: usize, count: usize, marks: bool) -> Result<(), Fault>
+pub(crate) fn check_words<K: Words>(bytes: &[u8], from: usize, count: usize) -> Result<(), Fault>
     requires { from + 4 * count ≤ length bytes.now }
-    ensures { MatchResult result (λ _. Passes (word_checks marks bytes.now from count)) (λ f. Refuses (word_checks marks bytes.now from count) f) }
+    ensures { MatchResult result (λ _. Passes (word_checks K.takes bytes.now from count)) (λ f. Refuses (word_checks K.takes bytes.now from count) f) }
 {
-    for k in 0..count {
-        check_word(bytes, from + 4 * k, marks)?;
+    let refused = (0..count).find(|&k| !K::takes(u32::at(bytes, from + 4 * k)));
+    match refused {
+        None => Ok(()),
+        Some(k) => Err(sheet_fault(Cause::Points, from + 4 * k)),
     }
-    Ok(())
 }

@@ -1,63 +1,88 @@
 // Sparse sheets: spans of seats for every run, and the points of the covered seats.
-ghost use Rattle.std.specs.Prelude.{◌≡◌, ◌+◌, ◌-◌, ◌*◌, ◌<◌, ◌≤◌, max, true, [], length, MatchResult};
-ghost use Rattle.fault.specs.Checks.{Passes, Refuses, kept};
+ghost use Rattle.std.specs.Prelude.{◌≡◌, ◌+◌, ◌-◌, ◌*◌, ◌<◌, ◌≤◌, max, true, length, refl};
+ghost use Rattle.fault.specs.Checks.{Passes, kept};
 ghost use Rattle.points.specs.Tables.{Next};
 ghost use Rattle.points.specs.Limits.{size_limit};
-ghost use Rattle.sheets.specs.Headers.{size_in, spans_in, sheet_top};
+ghost use Rattle.sheets.specs.Headers.{size_in, spans_in, in_range};
 ghost use Rattle.sheets.specs.Sparse.{span_limit, points_at, sparse_checks, point_word, sparse_table};
-ghost use Rattle.sheets.specs.Seeks.{point_by};
+ghost use Rattle.sheets.specs.Seeks.{First, point_by};
 ghost use Rattle.sheets.specs.Ranges.{sparse_lawful};
-ghost use Rattle.std.proofs.Common.{rules};
 
-use crate::fields::{no_bytes, u32_at};
+use crate::checks::{Words, in_range};
+use crate::fields::Field;
+use crate::frames::Frame;
 use crate::rules::check_sparse;
-use crate::spans::{Span, first_over, span_at};
+use crate::sheet::{Layout, Sheet};
+use crate::spans::Span;
 use fault::faults::Fault;
-use points::sources::{PairSource, RowSource};
-use std::alloc::Global;
 
-// A sparse sheet, by its bytes: none, or bytes that keep every rule.
-#[derive(Drop)]
-pub struct SparseSheet {
-    bytes: Vec<u8>,
-    size: usize,
-    ghost sized: { size ≡ size_in bytes.items },
-    ghost keeps: { 0 < length bytes.items → kept (sparse_checks bytes.items) ≡ true },
+// The layout of sparse sheets.
+pub struct Sparse;
+
+pub type SparseSheet = Sheet<Sparse>;
+
+// The bytes of a sparse sheet that keep every rule.
+#[derive(Clone, Copy)]
+pub(crate) struct SparseBytes<'a> {
+    frame: Frame<'a>,
+    ghost keeps: { kept (sparse_checks frame.bytes.now) ≡ true },
 }
 
-// The word of a point, by its number.
-pub(crate) fn point_word(bytes: &[u8], size: usize, point: usize) -> u32
-    requires size { (size ≡ size_in bytes.now) × (size ≤ size_limit) × (spans_in bytes.now ≤ span_limit) }
-    requires room { points_at bytes.now + 4 * point + 4 ≤ length bytes.now }
-    ensures { result ≡ point_word bytes.now point }
-{
-    let spans = u32_at(bytes, 4) as usize;
-    u32_at(bytes, span_at(size, spans) + 4 * point)
-}
-
-// The points that a span has for a seat below its end, or nothing where it begins after the seat.
-pub(crate) fn point_of(bytes: &[u8], size: usize, span: Span, seat: usize) -> Option<i32>
-    requires size { (size ≡ size_in bytes.now) × (size ≤ size_limit) × (spans_in bytes.now ≤ span_limit) }
-    requires room { span.from ≤ seat → points_at bytes.now + 4 * (span.first + (seat - span.from)) + 4 ≤ length bytes.now }
-    ensures { result ≡ point_by bytes.now span seat }
-{
-    let from = usize::from(span.from);
-    if from <= seat {
-        let word = point_word(bytes, size, span.first as usize + (seat - from));
-        Some(word.cast_signed())
-    } else {
-        None
+impl<'a> SparseBytes<'a> {
+    // Bytes that have passed the checks, and their size.
+    pub(crate) fn new(bytes: &'a [u8], size: usize) -> Self
+        requires size { size ≡ size_in bytes.now }
+        requires passes { Passes (sparse_checks bytes.now) }
+        ensures { result.frame.bytes.now ≡ bytes.now }
+    {
+        let spans = u32::at(bytes, 4) as usize;
+        SparseBytes {
+            frame: Frame { bytes, size, spans },
+        }
     }
-}
 
-// The points of a run on a seat, or nothing where no span of the run covers the seat.
-pub(crate) fn points_in(bytes: &[u8], size: usize, run: usize, seat: usize) -> Option<i32>
-    requires size { (size ≡ size_in bytes.now) × (run < size) }
-    requires passes { Passes (sparse_checks bytes.now) }
-    ensures { result ≡ (sparse_table bytes.now).points run seat }
-{
-    let span = first_over(bytes, size, run, seat)?;
-    point_of(bytes, size, span, seat)
+    // The first span of a run's row that ends over a seat, or nothing where none does.
+    pub(crate) fn first_over(&self, run: usize, seat: usize) -> Option<Span>
+        requires { run < self.now.frame.size }
+        ensures { First self.now.frame.bytes.now run seat result }
+    {
+        let spans = self.frame.row_spans(run);
+        let passed = spans.partition_point(|span| Span::read(span).ends_by(seat));
+        spans.get(passed).map(|span| Span::read(span))
+    }
+
+    // The points that a span has for a seat below its end, or nothing where it begins after the seat.
+    pub(crate) fn point_of(&self, span: Span, seat: usize) -> Option<i32>
+        requires { span.from ≤ seat → points_at self.now.frame.bytes.now + 4 * (span.first + (seat - span.from)) + 4 ≤ length self.now.frame.bytes.now }
+        ensures { result ≡ point_by self.now.frame.bytes.now span seat }
+    {
+        let bytes = self.frame.bytes;
+        let from = usize::from(span.from);
+        if from <= seat {
+            let point = span.first as usize + (seat - from);
+            Some(u32::at(bytes, self.frame.points_at() + 4 * point).cast_signed())
+        } else {
+            None
+        }
+    }
+
+    // The points of a run on a seat, or nothing where no span of the run covers the seat.
+    pub(crate) fn points(&self, run: usize, seat: usize) -> Option<i32>
+        requires { run < self.now.frame.size }
+        ensures { result ≡ (sparse_table self.now.frame.bytes.now).points run seat }
+    {
+        let span = self.first_over(run, seat)?;
+        self.point_of(span, seat)
+    }
+
+    // The lowest covered seat of a run that is at least `from`, or nothing where there is none.
+    pub(crate) fn next(&self, run: usize, from: usize) -> Option<usize>
+        requires { run < self.now.frame.size }
+        ensures { Next (sparse_table self.now.frame.bytes.now) run from result }
+    {
+        let span = self.first_over(run, from)?;
+        Some(reached(span, from))
+    }
 }
 
 // The first seat that a span covers from a seat below its end on.
@@ -67,82 +92,34 @@ pub(crate) fn reached(span: Span, seat: usize) -> usize
     seat.max(usize::from(span.from))
 }
 
-// The lowest covered seat of a run that is at least `from`, or nothing where there is none.
-pub(crate) fn next_in(bytes: &[u8], size: usize, run: usize, from: usize) -> Option<usize>
-    requires size { (size ≡ size_in bytes.now) × (run < size) }
-    requires passes { Passes (sparse_checks bytes.now) }
-    ensures { Next (sparse_table bytes.now) run from result }
-{
-    let span = first_over(bytes, size, run, from)?;
-    Some(reached(span, from))
-}
+impl Words for Sparse {
+    ghost takes = { in_range };
 
-impl SparseSheet {
-    // The empty sheet, of size 0.
-    pub fn new(heap: Global) -> Self
-        ensures { result.bytes.items ≡ [] }
-    {
-        SparseSheet {
-            bytes: no_bytes(heap),
-            size: 0,
-        }
-    }
-
-    // Takes the bytes where they keep every rule; else says which rule they break first, and leaves the sheet as it was.
-    pub fn fill(&mut self, bytes: Vec<u8>) -> Result<(), Fault>
-        ensures { MatchResult result
-            (λ _. Passes (sparse_checks bytes.items) × (self.new.bytes ≡ bytes))
-            (λ f. Refuses (sparse_checks bytes.items) f × (self.new ≡ self.old)) }
-    {
-        *self = SparseSheet::read(bytes)?;
-        Ok(())
-    }
-
-    // The sheet of these bytes, where they keep every rule.
-    pub(crate) fn read(bytes: Vec<u8>) -> Result<SparseSheet, Fault>
-        ensures { MatchResult result
-            (λ s. Passes (sparse_checks bytes.items) × (s.bytes ≡ bytes))
-            (λ f. Refuses (sparse_checks bytes.items) f) }
-    {
-        let size = check_sparse(&bytes)?;
-        Ok(SparseSheet { bytes, size })
+    fn takes(word: u32) -> bool {
+        in_range(word)
     }
 }
 
-impl PairSource for SparseSheet {
-    const TOP: u32 = 1_000_000;
+impl Layout for Sparse {
+    ghost checks = { sparse_checks };
 
-    ghost top = { sheet_top };
+    ghost table = { sparse_table };
 
-    ghost table = { λ s. sparse_table s.bytes.items };
+    ghost sized = { λ bs. refl };
 
-    ghost limits = { Prim.search rules };
+    ghost topped = { λ bs. refl };
 
-    ghost topped = { Prim.search rules };
+    ghost lawful = { sparse_lawful };
 
-    ghost lawful = { λ s. sparse_lawful s.bytes.items s.keeps };
-
-    fn limit() -> u32 {
-        Self::TOP
+    fn check(bytes: &[u8]) -> Result<usize, Fault> {
+        check_sparse(bytes)
     }
 
-    fn size(&self) -> usize {
-        self.size
+    fn points(bytes: &[u8], size: usize, run: usize, seat: usize) -> Option<i32> {
+        SparseBytes::new(bytes, size).points(run, seat)
     }
 
-    fn points(&self, run: usize, seat: usize) -> Option<i32> {
-        if run >= self.size {
-            return None;
-        }
-        points_in(&self.bytes, self.size, run, seat)
-    }
-}
-
-impl RowSource for SparseSheet {
-    fn next(&self, run: usize, from: usize) -> Option<usize> {
-        if run >= self.size {
-            return None;
-        }
-        next_in(&self.bytes, self.size, run, from)
+    fn next(bytes: &[u8], size: usize, run: usize, from: usize) -> Option<usize> {
+        SparseBytes::new(bytes, size).next(run, from)
     }
 }

@@ -1,8 +1,0 @@
-use Rattle.std.proofs.Common.{true}
-use Rattle.fault.specs.Checks.{Passes, each}
-use Rattle.sheets.specs.Headers.{size_in, word_checks}
-use Rattle.sheets.specs.Dense.{row_at}
-use Rattle.sheets.proofs.dense.check_cells.Given as goal
-
-abbrev pub invariant-loop-run : goal.invariant-loop-run
-invariant-loop-run l = Passes (each l.run (λ i. word_checks true l.bytes (row_at (size_in l.bytes) i) (size_in l.bytes)))

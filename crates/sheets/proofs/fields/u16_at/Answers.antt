@@ -1,7 +1,0 @@
-use Rattle.std.proofs.Common.{rules}
-use Rattle.sheets.specs.Bytes.{le16}
-use Rattle.sheets.proofs.fields.u16_at.Goals as goal
-
-pub returns : goal.returns
-unfolding le16
-returns c = search rules
