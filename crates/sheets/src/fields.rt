@@ -32,8 +32,7 @@ pub(crate) trait Field: Copy {
     ghost local: { (bs : List ℕ) (at : ℕ) → reads (take WIDTH (drop at bs)) 0 ≡ reads bs at };
 }
 
-// The numbers share no trait that has from_le_bytes, so each width names its own; a sheet is checked in 249 us where they cut an
-// array from the slice, and in 143 us as they stand.
+// Each width lists its bytes: where `first_chunk` cuts them out, checking a certificate takes 249 us, and here 143 us.
 impl Field for u16 {
     ghost WIDTH = { 2 };
 
