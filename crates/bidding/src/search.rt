@@ -6,7 +6,7 @@ ghost use Rattle.bidding.specs.Searches.{terms_floor, limited_to, ToldWithin, we
 use crate::sought::{Offer, Sought};
 use crate::terms::Terms;
 use boards::board::PriceBoard;
-use points::nets::net_points;
+use points::nets::{net_points, scaled_points};
 use points::sources::{PairSource, RowSource};
 
 // The bid of a run at the prices that it is shown, or nothing where it is hopeless.
@@ -46,18 +46,14 @@ pub fn seek<S: RowSource, B: PriceBoard>(
 pub fn offer(terms: &Terms, found: Option<Sought>) -> Option<Offer>
     ensures { result ≡ offered (terms_floor terms.now) terms.now.increment found }
 {
-    match found {
-        None => None,
-        Some(best) => {
-            if best.net < terms.floor() {
-                return None;
-            }
-            Some(Offer {
-                seat: best.seat,
-                price: bid_price(best.worth, best.second, terms.increment),
-            })
-        }
+    let best = found?;
+    if best.net < terms.floor() {
+        return None;
     }
+    Some(Offer {
+        seat: best.seat,
+        price: bid_price(best.worth, best.second, terms.increment),
+    })
 }
 
 // The bid of a run on what its search found.
@@ -110,13 +106,12 @@ pub(crate) fn take_seat<S: RowSource, B: PriceBoard>(
 ) -> Option<Sought>
     ensures { result ≡ taken size floor (limited_to (B.PriceBoard.face board.now) run) seat ((S.PairSource.table source.now).points run seat) found }
 {
-    match source.points(run, seat) {
-        None => found,
-        Some(points) => {
-            let net = net_points(size, points, board.shows(run, seat));
-            Some(weigh(found, seat, worth_points(size, points), net, floor))
-        }
-    }
+    let Some(points) = source.points(run, seat) else {
+        return found;
+    };
+    let worth = scaled_points(size, points);
+    let net = net_points(size, points, board.shows(run, seat));
+    Some(weigh(found, seat, worth, net, floor))
 }
 
 // A seat put beside what was found below it: it is better only where it nets more.
@@ -148,13 +143,6 @@ pub(crate) fn weigh(found: Option<Sought>, seat: usize, worth: i64, net: i64, fl
             }
         }
     }
-}
-
-// The scaled points of a seat: its net at the price 0.
-pub(crate) fn worth_points(size: u16, points: i32) -> i64
-    ensures { result ≡ scaled size points }
-{
-    net_points(size, points, 0)
 }
 
 // The price of a bid: one increment more than leaves the run its second value.
