@@ -109,39 +109,29 @@ pub(crate) fn take_seat<S: RowSource, B: PriceBoard>(
     let Some(points) = source.points(run, seat) else {
         return found;
     };
-    let worth = scaled_points(size, points);
-    let net = net_points(size, points, board.shows(run, seat));
-    Some(weigh(found, seat, worth, net, floor))
+    let new = Sought {
+        seat,
+        worth: scaled_points(size, points),
+        net: net_points(size, points, board.shows(run, seat)),
+        second: floor,
+    };
+    Some(weigh(found, new))
 }
 
 // A seat put beside what was found below it: it is better only where it nets more.
-pub(crate) fn weigh(found: Option<Sought>, seat: usize, worth: i64, net: i64, floor: i64) -> Sought
-    ensures { result ≡ weighed found seat worth net floor }
+pub(crate) fn weigh(found: Option<Sought>, new: Sought) -> Sought
+    ensures { result ≡ weighed found new.seat new.worth new.net new.second }
 {
     match found {
-        None => Sought {
-            seat,
-            worth,
-            net,
-            second: floor,
+        None => new,
+        Some(old) if old.net < new.net => Sought {
+            second: old.second.max(old.net),
+            ..new
         },
-        Some(old) => {
-            if old.net < net {
-                Sought {
-                    seat,
-                    worth,
-                    net,
-                    second: old.second.max(old.net),
-                }
-            } else {
-                Sought {
-                    seat: old.seat,
-                    worth: old.worth,
-                    net: old.net,
-                    second: old.second.max(net),
-                }
-            }
-        }
+        Some(old) => Sought {
+            second: old.second.max(new.net),
+            ..old
+        },
     }
 }
 
