@@ -9,6 +9,17 @@ use boards::board::PriceBoard;
 use points::nets::{net_points, scaled_points};
 use points::sources::{PairSource, RowSource};
 
+// The search for a run's best seat over a source and a board, by the size and the floor of a phase.
+#[derive(Drop)]
+pub(crate) struct Search<'a, S: RowSource, B: PriceBoard> {
+    source: &'a S,
+    board: &'a B,
+    run: usize,
+    size: u16,
+    floor: i64,
+    ghost sized: { size ≡ (S.PairSource.table source.now).size },
+}
+
 // The bid of a run at the prices that it is shown, or nothing where it is hopeless.
 pub fn compose_bid<S: RowSource, B: PriceBoard>(
     source: &S,
@@ -21,7 +32,7 @@ pub fn compose_bid<S: RowSource, B: PriceBoard>(
     ensures terms { OffersAt (S.PairSource.table source.now) terms.now (limited_to (B.PriceBoard.face board.now) run) run result }
     ensures other { terms.now.size ≢ (S.PairSource.table source.now).size → result ≡ None }
 {
-    bid_on(source, board, terms, run, seek(source, board, terms, run))
+    offer(terms, seek(source, board, terms, run))
 }
 
 // The best seat of a run at the prices that it is shown, or nothing where no seat is allowed to it.
@@ -39,7 +50,14 @@ pub fn seek<S: RowSource, B: PriceBoard>(
     if usize::from(terms.size) != source.size() {
         return None;
     }
-    take_seats(source, board, terms.size, terms.floor(), run)
+    let search = Search {
+        source,
+        board,
+        run,
+        size: terms.size,
+        floor: terms.floor(),
+    };
+    search.find()
 }
 
 // What is offered on what a search found: nothing where that nets less than the floor.
@@ -56,66 +74,36 @@ pub fn offer(terms: &Terms, found: Option<Sought>) -> Option<Offer>
     })
 }
 
-// The bid of a run on what its search found.
-pub(crate) fn bid_on<S: RowSource, B: PriceBoard>(
-    source: &S,
-    board: &B,
-    terms: &Terms,
-    run: usize,
-    found: Option<Sought>,
-) -> Option<Offer>
-    requires limited { SeeksAt (S.PairSource.table source.now) terms.now (limited_to (B.PriceBoard.face board.now) run) run found }
-    requires shown { B.PriceBoard.sound board.now → ToldWithin (B.PriceBoard.face board.now) → SeeksAt (S.PairSource.table source.now) terms.now ((B.PriceBoard.face board.now).shown run) run found }
-    ensures limited { BidsAt (S.PairSource.table source.now) terms.now (limited_to (B.PriceBoard.face board.now) run) run result }
-    ensures shown { B.PriceBoard.sound board.now → ToldWithin (B.PriceBoard.face board.now) → BidsAt (S.PairSource.table source.now) terms.now ((B.PriceBoard.face board.now).shown run) run result }
-    ensures same { result ≡ offered (terms_floor terms.now) terms.now.increment found }
-{
-    offer(terms, found)
-}
-
-// Every allowed seat of a run, from the lowest on.
-pub(crate) fn take_seats<S: RowSource, B: PriceBoard>(
-    source: &S,
-    board: &B,
-    size: u16,
-    floor: i64,
-    run: usize,
-) -> Option<Sought>
-    requires { size ≡ (S.PairSource.table source.now).size }
-    ensures limited { Seeks (S.PairSource.table source.now) floor (limited_to (B.PriceBoard.face board.now) run) run result }
-    ensures shown { B.PriceBoard.sound board.now → ToldWithin (B.PriceBoard.face board.now) → Seeks (S.PairSource.table source.now) floor ((B.PriceBoard.face board.now).shown run) run result }
-{
-    let mut found: Option<Sought> = None;
-    let mut from = 0;
-    while let Some(seat) = source.next(run, from) {
-        found = take_seat(source, board, size, floor, run, seat, found);
-        from = seat + 1;
+impl<S: RowSource, B: PriceBoard> Search<'_, S, B> {
+    // The best of the run's allowed seats, which are taken from the lowest on.
+    pub(crate) fn find(&self) -> Option<Sought>
+        ensures limited { Seeks (S.PairSource.table self.now.source.now) self.now.floor (limited_to (B.PriceBoard.face self.now.board.now) self.now.run) self.now.run result }
+        ensures shown { B.PriceBoard.sound self.now.board.now → ToldWithin (B.PriceBoard.face self.now.board.now) → Seeks (S.PairSource.table self.now.source.now) self.now.floor ((B.PriceBoard.face self.now.board.now).shown self.now.run) self.now.run result }
+    {
+        let mut found = None;
+        let mut from = 0;
+        while let Some(seat) = self.source.next(self.run, from) {
+            found = self.take_seat(seat, found);
+            from = seat + 1;
+        }
+        found
     }
-    found
-}
 
-// One seat more, if it is allowed.
-pub(crate) fn take_seat<S: RowSource, B: PriceBoard>(
-    source: &S,
-    board: &B,
-    size: u16,
-    floor: i64,
-    run: usize,
-    seat: usize,
-    found: Option<Sought>,
-) -> Option<Sought>
-    ensures { result ≡ taken size floor (limited_to (B.PriceBoard.face board.now) run) seat ((S.PairSource.table source.now).points run seat) found }
-{
-    let Some(points) = source.points(run, seat) else {
-        return found;
-    };
-    let new = Sought {
-        seat,
-        worth: scaled_points(size, points),
-        net: net_points(size, points, board.shows(run, seat)),
-        second: floor,
-    };
-    Some(weigh(found, new))
+    // One seat more, if it is allowed.
+    pub(crate) fn take_seat(&self, seat: usize, found: Option<Sought>) -> Option<Sought>
+        ensures { result ≡ taken self.now.size self.now.floor (limited_to (B.PriceBoard.face self.now.board.now) self.now.run) seat ((S.PairSource.table self.now.source.now).points self.now.run seat) found }
+    {
+        let Some(points) = self.source.points(self.run, seat) else {
+            return found;
+        };
+        let new = Sought {
+            seat,
+            worth: scaled_points(self.size, points),
+            net: net_points(self.size, points, self.board.shows(self.run, seat)),
+            second: self.floor,
+        };
+        Some(weigh(found, new))
+    }
 }
 
 // A seat put beside what was found below it: it is better only where it nets more.
