@@ -3,3 +3,4 @@ pub mod Scales
 pub mod Optimal
 pub mod Steps
 pub mod Rows
+pub mod Allowed

@@ -4,3 +4,4 @@ pub mod Nets
 pub mod Plans
 pub mod Sums
 pub mod Summaries
+pub mod Seats

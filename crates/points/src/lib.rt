@@ -2,6 +2,7 @@
 // Sources of points: pair sources, row sources, and the arithmetic of nets.
 pub mod limits;
 pub mod nets;
+pub mod seats;
 pub mod sources;
 pub mod summaries;
 pub mod summarize;

@@ -2,6 +2,9 @@
 ghost use Rattle.std.specs.Prelude.{◌≡◌, ℕ, ◌≤◌};
 ghost use Rattle.points.specs.Limits.{top_limit};
 ghost use Rattle.points.specs.Tables.{Table, Lawful, Next};
+ghost use Rattle.points.specs.Seats.{seats_from};
+
+use crate::seats::AllowedSeats;
 
 // A table of points by run and seat, some pairs of which are not allowed.
 pub trait PairSource {
@@ -36,4 +39,18 @@ pub trait RowSource: PairSource {
     // The lowest allowed seat of a run that is at least `from`, or nothing where there is none.
     fn next(&self, run: usize, from: usize) -> Option<usize>
         ensures { Next (Self.PairSource.table self.now) run from result };
+
+    // The allowed seats of a run, ascending.
+    final fn seats(&self, run: usize) -> AllowedSeats<'_, Self>
+    where
+        Self: Sized,
+        ensures { result ≡ seats_from (Self.PairSource.table self.now) run 0 }
+    {
+        AllowedSeats {
+            source: self,
+            size: self.size(),
+            run,
+            from: 0,
+        }
+    }
 }

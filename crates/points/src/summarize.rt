@@ -35,20 +35,12 @@ pub(crate) fn note(seen: Summary, points: Option<i32>) -> Summary
 }
 
 // The allowed seats of one run more.
-pub(crate) fn note_row<S: RowSource>(
-    source: &S,
-    size: usize,
-    run: usize,
-    before: Summary,
-) -> Summary
-    requires { size ≡ (S.PairSource.table source.now).size }
-    ensures { result ≡ row_noted (S.PairSource.table source.now) run before size }
+pub(crate) fn note_row<S: RowSource>(source: &S, run: usize, before: Summary) -> Summary
+    ensures { result ≡ row_noted (S.PairSource.table source.now) run before (S.PairSource.table source.now).size }
 {
     let mut seen = before;
-    let mut from = 0;
-    while let Some(seat) = source.next(run, from) {
+    for seat in source.seats(run) {
         seen = note(seen, source.points(run, seat));
-        from = seat + 1;
     }
     seen
 }
@@ -61,9 +53,8 @@ pub fn summarize<S: RowSource>(source: &S) -> Summary
         allowed: 0,
         range: None,
     };
-    let size = source.size();
-    for run in 0..size {
-        seen = note_row(source, size, run, seen);
+    for run in 0..source.size() {
+        seen = note_row(source, run, seen);
     }
     seen
 }

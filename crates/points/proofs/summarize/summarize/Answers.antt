@@ -8,6 +8,5 @@ pub loop-run-preserved : goal.loop-run-preserved
 loop-run-preserved g c =
     let t : Table = g.S.PairSource.table c.args.source.now in
     c.note_row-seen.ensures
-    ∙ ap (row_noted t c.loop-run.run c.loop-run.seen) c.size-size.ensures
     ∙ ap (λ (s : Summary). row_noted t c.loop-run.run s t.size) c.loop-run.invariant
     ∙ ap (summary_to t) (sym (add-one c.loop-run.run))
