@@ -81,10 +81,8 @@ impl<S: RowSource, B: PriceBoard> Search<'_, S, B> {
         ensures shown { B.PriceBoard.sound self.now.board.now → ToldWithin (B.PriceBoard.face self.now.board.now) → Seeks (S.PairSource.table self.now.source.now) self.now.floor ((B.PriceBoard.face self.now.board.now).shown self.now.run) self.now.run result }
     {
         let mut found = None;
-        let mut from = 0;
-        while let Some(seat) = self.source.next(self.run, from) {
+        for seat in self.source.seats(self.run) {
             found = self.take_seat(seat, found);
-            from = seat + 1;
         }
         found
     }
