@@ -1,10 +1,10 @@
 -- The search by the program's own results: what is known once the seats below k are seen, and the bid at the end.
-use Rattle.std.proofs.Common.{◌≡◌, ℕ, suc, ◌+◌, ◌≤◌, Bool, true, false, cond, ◌⊎◌, ℤ, ◌≤ℤ◌, ◌<ℤ◌, Some, None, Option, refl, subst, inl, inr, add-one, arith}
+use Rattle.std.proofs.Common.{◌≡◌, ℕ, suc, ◌+◌, ◌≤◌, Bool, true, false, cond, ◌⊎◌, ℤ, ◌≤ℤ◌, ◌<ℤ◌, Some, None, Option, refl, subst, add-one, arith}
 use native.Mathlib.Decide.{dec_lt}
 use borrow.Author.Differences.{ints, lt-true, lt-false}
 use lib.Signed.{lt_z}
 use Rattle.std.specs.Int.{int_max}
-use Rattle.std.proofs.lemmas.Int.{by_lt_z, clamps}
+use Rattle.std.proofs.lemmas.Int.{clamps}
 use Rattle.points.specs.Tables.{Table, Pays, Lawful, Gap}
 use Rattle.points.specs.Nets.{scaled, net}
 use Rattle.bidding.specs.declared.sought.Sought.{Sought}
@@ -24,7 +24,7 @@ KnowsBelow t f q i k (Some s) = FoundBelow t f q i k s
 
 -- the greater of two is one of them
 greater_one : (a b : ℤ) → (int_max a b ≡ a) ⊎ (int_max a b ≡ b)
-greater_one a b = by_lt_z {P = (int_max a b ≡ a) ⊎ (int_max a b ≡ b)} b a (λ h. inl (omega (arith, ints, clamps))) (λ h. inr (omega (arith, ints, clamps)))
+greater_one a b = grind (arith, ints, clamps)
 
 greater_left : (a b : ℤ) → a ≤ℤ int_max a b
 greater_left a b = omega (arith, ints, clamps)
