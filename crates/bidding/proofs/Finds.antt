@@ -1,12 +1,16 @@
 -- The search by the program's own results: what is known once the seats below k are seen, and the bid at the end.
-use Rattle.std.proofs.Common.{◌≡◌, ℕ, suc, ◌+◌, ◌≤◌, Bool, true, false, cond, ◌⊎◌, ℤ, ◌≤ℤ◌, ◌<ℤ◌, Some, None, Option, refl, subst, add-one, arith}
+use Rattle.std.proofs.Common.{◌≡◌, ℕ, suc, ◌+◌, ◌≤◌, Bool, true, false, cond, ◌⊎◌, ℤ, ◌≤ℤ◌, ◌<ℤ◌, Some, None, Option, List, [], ◌∷◌, refl, sym, subst, add-one, arith}
 use native.Mathlib.Decide.{dec_lt}
 use borrow.Author.Differences.{ints, lt-true, lt-false}
 use lib.Signed.{lt_z}
 use Rattle.std.specs.Int.{int_max}
+use Rattle.std.specs.List.{fold}
 use Rattle.std.proofs.lemmas.Int.{clamps}
 use Rattle.points.specs.Tables.{Table, Pays, Lawful, Gap}
+use Rattle.points.specs.Seats.{seats_from}
 use Rattle.points.specs.Nets.{scaled, net}
+use Rattle.points.proofs.Allowed.{seats_first, seats_none}
+use Rattle.points.proofs.Scales.{worth}
 use Rattle.bidding.specs.declared.sought.Sought.{Sought}
 use Rattle.bidding.specs.Searches.{weighed, taken, Seeks}
 use Rattle.auction.proofs.Seeks.{Seen, seen_skip, seen_first, seen_better, seen_other, seen_best, seen_second}
@@ -77,6 +81,17 @@ module _ (t : Table) (f : ℤ) (q : ℕ → ℕ) (i : ℕ) where
   pub known_more : (n from k : ℕ) (p : ℤ) (o r : Option Sought) → n ≡ t.size → r ≡ taken n f q k (t.points i k) o → from ≤ k → Gap t i from k → Pays t i k p → KnowsBelow t f q i from o → KnowsBelow t f q i (k + 1) r
   known_more n from k p o r e is h gap a x = rw (is, e, add-one, a) (weighed_known k p o a (known_skip from k o h gap x))
 
+  -- the allowed seats from one on, taken in turn
+  abbrev took : ℕ → Option Sought → ℕ → Option Sought
+  took n o k = taken n f q k (t.points i k) o
+
+  known_all : (n from : ℕ) (xs : List ℕ) (o : Option Sought) → Lawful t → n ≡ t.size → from ≤ t.size → seats_from t i from ≡ xs → KnowsBelow t f q i from o → KnowsBelow t f q i t.size (fold (took n) o xs)
+  known_all n from [] o l is low left x = known_skip from t.size o low (seats_none t i from left) x
+  known_all n from (k ∷ xs) o l is low left x =
+      let (above, below, here, gap, rest) = seats_first t i from k xs left in
+      let (p, a) = worth t i k here in
+      known_all n (k + 1) xs (took n o k) l is (omega arith) (sym rest) (known_more n from k p o (took n o k) is refl above gap a x)
+
   -- the search is over
   pub known_end : Lawful t → (o : Option Sought) → KnowsBelow t f q i t.size o → Seeks t f q i o
   known_end l None gap = λ k. go k (t.points i k) refl
@@ -91,3 +106,7 @@ module _ (t : Table) (f : ℤ) (q : ℕ → ℕ) (i : ℕ) where
     net = x.net;
     second = seen_second t f q i l s.seat x.points s.second x.seen;
   }
+
+  -- so all of them taken in turn are a search
+  pub all_seek : (n : ℕ) (o : Option Sought) → Lawful t → n ≡ t.size → o ≡ fold (took n) None (seats_from t i 0) → Seeks t f q i o
+  all_seek n o l is e = known_end l o (rw e (known_all n 0 (seats_from t i 0) None l is (omega arith) refl (λ k a b. absurd (omega arith))))

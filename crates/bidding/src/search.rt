@@ -80,15 +80,13 @@ impl<S: RowSource, B: PriceBoard> Search<'_, S, B> {
         ensures limited { Seeks (S.PairSource.table self.now.source.now) self.now.floor (limited_to (B.PriceBoard.face self.now.board.now) self.now.run) self.now.run result }
         ensures shown { B.PriceBoard.sound self.now.board.now → ToldWithin (B.PriceBoard.face self.now.board.now) → Seeks (S.PairSource.table self.now.source.now) self.now.floor ((B.PriceBoard.face self.now.board.now).shown self.now.run) self.now.run result }
     {
-        let mut found = None;
-        for seat in self.source.seats(self.run) {
-            found = self.take_seat(seat, found);
-        }
-        found
+        self.source
+            .seats(self.run)
+            .fold(None, |found, seat| self.take_seat(found, seat))
     }
 
     // One seat more, if it is allowed.
-    pub(crate) fn take_seat(&self, seat: usize, found: Option<Sought>) -> Option<Sought>
+    pub(crate) fn take_seat(&self, found: Option<Sought>, seat: usize) -> Option<Sought>
         ensures { result ≡ taken self.now.size self.now.floor (limited_to (B.PriceBoard.face self.now.board.now) self.now.run) seat ((S.PairSource.table self.now.source.now).points self.now.run seat) found }
     {
         let Some(points) = self.source.points(self.run, seat) else {

@@ -1,37 +1,24 @@
-use Rattle.std.proofs.Common.{◌+◌, sym, ◌∙◌, arith}
+use Rattle.std.proofs.Common.{◌≡◌, ℕ, None, Option, rules}
+use Rattle.std.specs.List.{fold}
+use Rattle.std.proofs.lemmas.Iterator.Consumers.{YieldsList-from_first, fold_from_yields_List}
 use Rattle.points.specs.Tables.{Table}
-use Rattle.points.proofs.Allowed.{seats_first, seats_none}
-use Rattle.points.proofs.Scales.{worth}
-use Rattle.bidding.specs.Searches.{limited_to, Seeks}
+use Rattle.points.specs.Seats.{seats_from}
+use Rattle.bidding.specs.declared.sought.Sought.{Sought}
+use Rattle.bidding.specs.Searches.{limited_to, taken, Seeks}
 use Rattle.bidding.proofs.Composed.{at_shown}
-use Rattle.bidding.proofs.Finds.{known_skip, known_more, known_end}
+use Rattle.bidding.proofs.Finds.{all_seek}
 use Rattle.bidding.proofs.search.Search.find.Goals as goal
-
-pub loop-seat-preserved : goal.loop-seat-preserved
-loop-seat-preserved g c =
-    let s = c.args.self.now in
-    let t : Table = g.S.PairSource.table s.source.now in
-    let (from, low, left, known) = c.loop-seat.invariant in
-    let k = c.in-Some.seat in
-    let (above, below, here, gap, rest) = seats_first t s.run from k c.next.new.self (sym left ∙ c.in-Some.ensures.steps) in
-    let (p, a) = worth t s.run k here in (
-      k + 1,
-      omega arith,
-      rest,
-      known_more t s.floor (limited_to (g.B.PriceBoard.face s.board.now) s.run) s.run s.size from k p c.loop-seat.found c.take_seat-found.result s.sized c.take_seat-found.ensures above gap a known,
-    )
 
 pub returns : goal.returns
 returns g c =
     let s = c.args.self.now in
     let t : Table = g.S.PairSource.table s.source.now in
     let face = g.B.PriceBoard.face s.board.now in
-    let (from, low, left, known) = c.loop-seat.invariant in
-    let found : Seeks t s.floor (limited_to face s.run) s.run c.loop-seat.found =
-    known_end t s.floor (limited_to face s.run) s.run (g.met.S.PairSource.lawful s.source.now) c.loop-seat.found (
-    known_skip t s.floor (limited_to face s.run) s.run from t.size c.loop-seat.found low (seats_none t s.run from (sym left ∙ c.in-None.ensures.steps.0)) known
-    ) in
+    let all : c.fold.result ≡ fold (λ (o : Option Sought) (k : ℕ). taken s.size s.floor (limited_to face s.run) k (t.points s.run k) o) None (seats_from t s.run 0) =
+    fold_from_yields_List _ (λ (o : Option Sought) (k : ℕ). taken s.size s.floor (limited_to face s.run) k (t.points s.run k) o) None c.fold.result c.fold.ensures.ran (YieldsList-from_first (λ x. x) (λ rest. rest) (seats_from t s.run 0) c.seats.ensures) (λ a x b q k. search rules) in
+    let found : Seeks t s.floor (limited_to face s.run) s.run c.fold.result =
+    all_seek t s.floor (limited_to face s.run) s.run s.size c.fold.result (g.met.S.PairSource.lawful s.source.now) s.sized all in
     record {
       limited = found;
-      shown = λ sound within. at_shown t s.floor face s.run c.loop-seat.found (g.met.B.PriceBoard.behind s.board.now sound) within found;
+      shown = λ sound within. at_shown t s.floor face s.run c.fold.result (g.met.B.PriceBoard.behind s.board.now sound) within found;
     }
