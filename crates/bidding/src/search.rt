@@ -1,7 +1,7 @@
 // The search for a run's bid, over every row source and every price board.
 ghost use Rattle.std.specs.Prelude.{◌≡◌, ◌≢◌, None};
 ghost use Rattle.points.specs.Nets.{scaled};
-ghost use Rattle.bidding.specs.Searches.{terms_floor, limited_to, ToldWithin, weighed, taken, Seeks, SeeksAt, priced, offered, OffersAt, BidsAt};
+ghost use Rattle.bidding.specs.Searches.{terms_floor, limited_to, ToldWithin, valued, weighed, Seeks, SeeksAt, priced, offered, OffersAt, BidsAt};
 
 use crate::sought::{Offer, Sought};
 use crate::terms::Terms;
@@ -75,47 +75,45 @@ pub fn offer(terms: &Terms, found: Option<Sought>) -> Option<Offer>
 }
 
 impl<S: RowSource, B: PriceBoard> Search<'_, S, B> {
-    // The best of the run's allowed seats, which are taken from the lowest on.
+    // The best of the run's allowed seats, which are weighed from the lowest on.
     pub(crate) fn find(&self) -> Option<Sought>
         ensures limited { Seeks (S.PairSource.table self.now.source.now) self.now.floor (limited_to (B.PriceBoard.face self.now.board.now) self.now.run) self.now.run result }
         ensures shown { B.PriceBoard.sound self.now.board.now → ToldWithin (B.PriceBoard.face self.now.board.now) → Seeks (S.PairSource.table self.now.source.now) self.now.floor ((B.PriceBoard.face self.now.board.now).shown self.now.run) self.now.run result }
     {
         self.source
             .seats(self.run)
-            .fold(None, |found, seat| self.take_seat(found, seat))
+            .filter_map(|seat| self.value(seat))
+            .reduce(weigh)
     }
 
-    // One seat more, if it is allowed.
-    pub(crate) fn take_seat(&self, found: Option<Sought>, seat: usize) -> Option<Sought>
-        ensures { result ≡ taken self.now.size self.now.floor (limited_to (B.PriceBoard.face self.now.board.now) self.now.run) seat ((S.PairSource.table self.now.source.now).points self.now.run seat) found }
+    // A seat as a find of its own, if it is allowed.
+    pub(crate) fn value(&self, seat: usize) -> Option<Sought>
+        ensures { result ≡ valued self.now.size self.now.floor (limited_to (B.PriceBoard.face self.now.board.now) self.now.run) seat ((S.PairSource.table self.now.source.now).points self.now.run seat) }
     {
-        let Some(points) = self.source.points(self.run, seat) else {
-            return found;
-        };
-        let new = Sought {
+        let points = self.source.points(self.run, seat)?;
+        Some(Sought {
             seat,
             worth: scaled_points(self.size, points),
             net: net_points(self.size, points, self.board.shows(self.run, seat)),
             second: self.floor,
-        };
-        Some(weigh(found, new))
+        })
     }
 }
 
 // A seat put beside what was found below it: it is better only where it nets more.
-pub(crate) fn weigh(found: Option<Sought>, new: Sought) -> Sought
-    ensures { result ≡ weighed found new.seat new.worth new.net new.second }
+pub(crate) fn weigh(old: Sought, new: Sought) -> Sought
+    ensures { result ≡ weighed old new }
 {
-    match found {
-        None => new,
-        Some(old) if old.net < new.net => Sought {
+    if old.net < new.net {
+        Sought {
             second: old.second.max(old.net),
             ..new
-        },
-        Some(old) => Sought {
+        }
+    } else {
+        Sought {
             second: old.second.max(new.net),
             ..old
-        },
+        }
     }
 }
 
