@@ -1,5 +1,5 @@
 -- The search for a run's best seat: what is known once the seats below k are seen, and at the end.
-use Rattle.std.proofs.Common.{◌≡◌, ℕ, suc, ◌+◌, ◌≤◌, Bool, true, false, cond, ◌⊎◌, ℤ, ◌≤ℤ◌, ◌<ℤ◌, Some, None, Option, List, [], ◌∷◌, refl, sym, subst, add-one, arith}
+use Rattle.std.proofs.Common.{◌≡◌, ℕ, suc, ◌+◌, ◌≤◌, Bool, true, false, cond, ◌⊎◌, ℤ, ◌≤ℤ◌, ◌<ℤ◌, Some, None, Option, List, [], ◌∷◌, refl, sym, add-one, arith}
 use borrow.Author.Differences.{ints, lt-true, lt-false}
 use lib.Signed.{lt_z}
 use Rattle.std.specs.Int.{int_max}
@@ -25,12 +25,6 @@ pub record FoundBelow (t : Table) (f : ℤ) (q : ℕ → ℕ) (i k : ℕ) (s : S
 greater_one : (a b : ℤ) → (int_max a b ≡ a) ⊎ (int_max a b ≡ b)
 greater_one a b = grind (arith, ints, clamps)
 
-greater_left : (a b : ℤ) → a ≤ℤ int_max a b
-greater_left a b = omega (arith, ints, clamps)
-
-greater_right : (a b : ℤ) → b ≤ℤ int_max a b
-greater_right a b = omega (arith, ints, clamps)
-
 module _ (t : Table) (f : ℤ) (q : ℕ → ℕ) (i : ℕ) where
   abbrev alone : ℕ → ℤ → Sought
   alone k p = record { seat = k; worth = scaled t.size p; net = net t.size p (q k); second = f }
@@ -55,8 +49,8 @@ module _ (t : Table) (f : ℤ) (q : ℕ → ℕ) (i : ℕ) where
             points = p;
             worth = refl;
             net = refl;
-            seen = seen_better t f q i k s.seat x.points s.second p (int_max s.second s.net) x.seen a less (greater_left s.second s.net) (omega (arith, ints, x.net, greater_right s.second s.net))
-                (subst (λ (z : ℤ). (int_max s.second s.net ≡ s.second) ⊎ (int_max s.second s.net ≡ z)) x.net (greater_one s.second s.net));
+            seen = seen_better t f q i k s.seat x.points s.second p (int_max s.second s.net) x.seen a less (omega (arith, ints, clamps)) (omega (arith, ints, clamps, x.net))
+                (rw (← x.net) (greater_one s.second s.net));
           }
       go false e =
           let most : new ≤ℤ old = omega (arith, ints, lt-false s.net new e, x.net) in
@@ -64,7 +58,7 @@ module _ (t : Table) (f : ℤ) (q : ℕ → ℕ) (i : ℕ) where
             points = x.points;
             worth = x.worth;
             net = x.net;
-            seen = seen_other t f q i k s.seat x.points s.second p (int_max s.second new) x.seen a most (greater_left s.second new) (greater_right s.second new) (greater_one s.second new);
+            seen = seen_other t f q i k s.seat x.points s.second p (int_max s.second new) x.seen a most (omega (arith, ints, clamps)) (omega (arith, ints, clamps)) (greater_one s.second new);
           }
 
   -- seats that are not allowed change nothing

@@ -1,8 +1,6 @@
 // How far below 0 the floor of a phase lies.
-ghost use Rattle.std.specs.Prelude.{◌≡◌, ◌+◌, ◌-◌, ◌*◌, ◌≤◌, pos, neg_ℤ};
-ghost use Rattle.points.specs.Limits.{size_limit, top_limit};
-ghost use Rattle.auction.specs.Limits.{increment_limit};
-ghost use Rattle.bidding.specs.Depths.{depth_of, floor_of, ceiling_limit, points_part_limit, increments_part_limit, depth_limit};
+ghost use Rattle.std.specs.Prelude.{◌≡◌, ◌+◌, ◌*◌, ◌≤◌};
+ghost use Rattle.bidding.specs.Depths.{depth_of, floor_of, ceiling_limit, depth_limit};
 ghost use Rattle.bidding.specs.Searches.{Made};
 
 use crate::terms::Terms;
@@ -42,15 +40,8 @@ impl Terms {
         ensures value { result ≡ depth_of self.now.size self.now.top self.now.increment self.now.high }
         ensures bound { result ≤ depth_limit }
     {
-        self.points_part() + self.increments_part() + self.high
-    }
-
-    // What the depth takes from points.
-    pub(crate) fn points_part(&self) -> u64
-        ensures value { result ≡ (2 * self.now.size - 1) * ((self.now.size + 1) * self.now.top) }
-        ensures bound { result ≤ points_part_limit }
-    {
-        (2 * u64::from(self.size) - 1) * self.ceiling()
+        let size = u64::from(self.size);
+        (2 * size - 1) * self.ceiling() + (size - 1) * self.increment + self.high
     }
 
     // The greatest that scaled points can be.
@@ -59,13 +50,5 @@ impl Terms {
         ensures bound { result ≤ ceiling_limit }
     {
         scale(self.size) as u64 * u64::from(self.top)
-    }
-
-    // What the depth takes from the increment.
-    pub(crate) fn increments_part(&self) -> u64
-        ensures value { result ≡ (self.now.size - 1) * self.now.increment }
-        ensures bound { result ≤ increments_part_limit }
-    {
-        (u64::from(self.size) - 1) * self.increment
     }
 }

@@ -1,6 +1,5 @@
 // The search for a run's bid, over every row source and every price board.
 ghost use Rattle.std.specs.Prelude.{◌≡◌, ◌≢◌, None};
-ghost use Rattle.points.specs.Nets.{scaled};
 ghost use Rattle.bidding.specs.Searches.{terms_floor, limited_to, ToldWithin, valued, weighed, Seeks, SeeksAt, priced, offered, OffersAt, BidsAt};
 
 use crate::sought::{Offer, Sought};
