@@ -1,5 +1,5 @@
 -- The offer on what a search found is the run's bid by the rules.
-use Rattle.std.proofs.Common.{◌≡◌, ℕ, ◌+◌, ◌≤◌, min, Bool, true, false, cond, ℤ, pos, negsuc, ◌+ℤ◌, ◌-ℤ◌, neg_ℤ, nat_abs, ◌≤ℤ◌, Some, None, Option, refl, ap, subst, arith}
+use Rattle.std.proofs.Common.{◌≡◌, ℕ, ◌≤◌, Bool, true, false, cond, ℤ, pos, ◌+ℤ◌, ◌-ℤ◌, neg_ℤ, ◌≤ℤ◌, Some, None, Option, refl, subst, arith}
 use mathlib.Core.Path.{fun_ext}
 use borrow.Author.Differences.{ints, lt-true, lt-false}
 use lib.Signed.{lt_z}
@@ -20,15 +20,11 @@ use Rattle.auction.proofs.Seeks.{second_low}
 use Rattle.bidding.proofs.Deep.{terms_floor_lem, depth_low, ceiling_low}
 
 pub limit_idle : LimitChangesNothing
-limit_idle f behind within i k = omega (arith, behind i k, within k)
+limit_idle f behind within i k = grind arith
 
 -- the price of a bid, where the second value is at most the scaled points and neither is far from 0
 priced_is : (u w : ℤ) (e : ℕ) → w ≤ℤ u → u ≤ℤ pos ceiling_limit → neg_ℤ (pos depth_limit) ≤ℤ w → e ≤ increment_limit → pos (priced u w e) ≡ ((u -ℤ w) +ℤ pos e)
-priced_is u w e low high deep small = go (u -ℤ w) refl
-  where
-    go : (d : ℤ) → u -ℤ w ≡ d → pos (min (nat_abs d + e) 18446744073709551615) ≡ d +ℤ pos e
-    go (pos n) h = let s : n + e ≤ 18446744073709551615 = omega (arith, ints, h) in let m : min (n + e) 18446744073709551615 ≡ n + e = omega arith in ap pos m
-    go (negsuc n) h = absurd (omega (arith, ints, h))
+priced_is u w e low high deep small = omega (arith, ints)
 
 module _ (t : Table) (l : Lawful t) (m : Market) (q : ℕ → ℕ) (i : ℕ) (x : Terms) (of : TermsOf t m x) where
   offered_is : (o : Option Sought) → Seeks t (terms_floor x) q i o → Composes t m q i (offered (terms_floor x) x.increment o)

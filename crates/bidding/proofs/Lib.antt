@@ -1,3 +1,4 @@
 pub mod Deep
+pub mod Reduced
 pub mod Finds
 pub mod Composed

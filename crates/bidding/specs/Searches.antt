@@ -48,18 +48,16 @@ ToldWithin f = (k : ℕ) → f.told k ≤ price_limit
 abbrev pub LimitChangesNothing : Type 0
 LimitChangesNothing = (f : Face) → ShownBehind f → ToldWithin f → (i k : ℕ) → limited_to f i k ≡ f.shown i k
 
--- seat k, of scaled points u and net v, put beside what was found below it, with f as the floor
-abbrev pub weighed : Option Sought → ℕ → ℤ → ℤ → ℤ → Sought
-weighed None k u v f = record { seat = k; worth = u; net = v; second = f }
-weighed (Some s) k u v f =
-    cond (int_lt s.net v)
-    (record { seat = k; worth = u; net = v; second = int_max s.second s.net })
-    (record { seat = s.seat; worth = s.worth; net = s.net; second = int_max s.second v })
+-- seat k with its points, if it is allowed, as a find of its own, at n seats, the floor f and prices q
+abbrev pub valued : ℕ → ℤ → (ℕ → ℕ) → ℕ → Option ℤ → Option Sought
+valued n f q k None = None
+valued n f q k (Some p) = Some (record { seat = k; worth = scaled n p; net = net n p (q k); second = f })
 
--- seat k with its points, if it is allowed, put beside what was found below it, at n seats and prices q
-abbrev pub taken : ℕ → ℤ → (ℕ → ℕ) → ℕ → Option ℤ → Option Sought → Option Sought
-taken n f q k None o = o
-taken n f q k (Some p) o = Some (weighed o k (scaled n p) (net n p (q k)) f)
+-- a seat put beside what was found below it: the one that nets more, the lower of equals, with the other's net counted
+abbrev pub weighed : Sought → Sought → Sought
+weighed old new =
+    cond (int_lt old.net new.net) (record new { second = int_max old.second old.net })
+    (record old { second = int_max old.second new.net })
 
 -- s is the lowest of the seats that net run i the most, with its scaled points, its net, and the second value
 pub record Finds (t : Table) (f : ℤ) (q : ℕ → ℕ) (i : ℕ) (s : Sought) : Type 0 where

@@ -1,13 +1,23 @@
 // The search for a run's bid, over every row source and every price board.
 ghost use Rattle.std.specs.Prelude.{◌≡◌, ◌≢◌, None};
-ghost use Rattle.points.specs.Nets.{scaled};
-ghost use Rattle.bidding.specs.Searches.{terms_floor, limited_to, ToldWithin, weighed, taken, Seeks, SeeksAt, priced, offered, OffersAt, BidsAt};
+ghost use Rattle.bidding.specs.Searches.{terms_floor, limited_to, ToldWithin, valued, weighed, Seeks, SeeksAt, priced, offered, OffersAt, BidsAt};
 
 use crate::sought::{Offer, Sought};
 use crate::terms::Terms;
 use boards::board::PriceBoard;
-use points::nets::net_points;
+use points::nets::{net_points, scaled_points};
 use points::sources::{PairSource, RowSource};
+
+// The search for a run's best seat over a source and a board, by the size and the floor of a phase.
+#[derive(Drop)]
+pub(crate) struct Search<'a, S: RowSource, B: PriceBoard> {
+    source: &'a S,
+    board: &'a B,
+    run: usize,
+    size: u16,
+    floor: i64,
+    ghost sized: { size ≡ (S.PairSource.table source.now).size },
+}
 
 // The bid of a run at the prices that it is shown, or nothing where it is hopeless.
 pub fn compose_bid<S: RowSource, B: PriceBoard>(
@@ -21,7 +31,7 @@ pub fn compose_bid<S: RowSource, B: PriceBoard>(
     ensures terms { OffersAt (S.PairSource.table source.now) terms.now (limited_to (B.PriceBoard.face board.now) run) run result }
     ensures other { terms.now.size ≢ (S.PairSource.table source.now).size → result ≡ None }
 {
-    bid_on(source, board, terms, run, seek(source, board, terms, run))
+    offer(terms, seek(source, board, terms, run))
 }
 
 // The best seat of a run at the prices that it is shown, or nothing where no seat is allowed to it.
@@ -39,122 +49,71 @@ pub fn seek<S: RowSource, B: PriceBoard>(
     if usize::from(terms.size) != source.size() {
         return None;
     }
-    take_seats(source, board, terms.size, terms.floor(), run)
+    let search = Search {
+        source,
+        board,
+        run,
+        size: terms.size,
+        floor: terms.floor(),
+    };
+    search.find()
 }
 
 // What is offered on what a search found: nothing where that nets less than the floor.
 pub fn offer(terms: &Terms, found: Option<Sought>) -> Option<Offer>
     ensures { result ≡ offered (terms_floor terms.now) terms.now.increment found }
 {
-    match found {
-        None => None,
-        Some(best) => {
-            if best.net < terms.floor() {
-                return None;
-            }
-            Some(Offer {
-                seat: best.seat,
-                price: bid_price(best.worth, best.second, terms.increment),
-            })
-        }
+    let best = found?;
+    if best.net < terms.floor() {
+        return None;
     }
+    Some(Offer {
+        seat: best.seat,
+        price: bid_price(best.worth, best.second, terms.increment),
+    })
 }
 
-// The bid of a run on what its search found.
-pub(crate) fn bid_on<S: RowSource, B: PriceBoard>(
-    source: &S,
-    board: &B,
-    terms: &Terms,
-    run: usize,
-    found: Option<Sought>,
-) -> Option<Offer>
-    requires limited { SeeksAt (S.PairSource.table source.now) terms.now (limited_to (B.PriceBoard.face board.now) run) run found }
-    requires shown { B.PriceBoard.sound board.now → ToldWithin (B.PriceBoard.face board.now) → SeeksAt (S.PairSource.table source.now) terms.now ((B.PriceBoard.face board.now).shown run) run found }
-    ensures limited { BidsAt (S.PairSource.table source.now) terms.now (limited_to (B.PriceBoard.face board.now) run) run result }
-    ensures shown { B.PriceBoard.sound board.now → ToldWithin (B.PriceBoard.face board.now) → BidsAt (S.PairSource.table source.now) terms.now ((B.PriceBoard.face board.now).shown run) run result }
-    ensures same { result ≡ offered (terms_floor terms.now) terms.now.increment found }
-{
-    offer(terms, found)
-}
-
-// Every allowed seat of a run, from the lowest on.
-pub(crate) fn take_seats<S: RowSource, B: PriceBoard>(
-    source: &S,
-    board: &B,
-    size: u16,
-    floor: i64,
-    run: usize,
-) -> Option<Sought>
-    requires { size ≡ (S.PairSource.table source.now).size }
-    ensures limited { Seeks (S.PairSource.table source.now) floor (limited_to (B.PriceBoard.face board.now) run) run result }
-    ensures shown { B.PriceBoard.sound board.now → ToldWithin (B.PriceBoard.face board.now) → Seeks (S.PairSource.table source.now) floor ((B.PriceBoard.face board.now).shown run) run result }
-{
-    let mut found: Option<Sought> = None;
-    let mut from = 0;
-    while let Some(seat) = source.next(run, from) {
-        found = take_seat(source, board, size, floor, run, seat, found);
-        from = seat + 1;
+impl<S: RowSource, B: PriceBoard> Search<'_, S, B> {
+    // The best of the run's allowed seats, which are weighed from the lowest on.
+    pub(crate) fn find(&self) -> Option<Sought>
+        ensures limited { Seeks (S.PairSource.table self.now.source.now) self.now.floor (limited_to (B.PriceBoard.face self.now.board.now) self.now.run) self.now.run result }
+        ensures shown { B.PriceBoard.sound self.now.board.now → ToldWithin (B.PriceBoard.face self.now.board.now) → Seeks (S.PairSource.table self.now.source.now) self.now.floor ((B.PriceBoard.face self.now.board.now).shown self.now.run) self.now.run result }
+    {
+        self.source
+            .seats(self.run)
+            .filter_map(|seat| self.value(seat))
+            .reduce(weigh)
     }
-    found
-}
 
-// One seat more, if it is allowed.
-pub(crate) fn take_seat<S: RowSource, B: PriceBoard>(
-    source: &S,
-    board: &B,
-    size: u16,
-    floor: i64,
-    run: usize,
-    seat: usize,
-    found: Option<Sought>,
-) -> Option<Sought>
-    ensures { result ≡ taken size floor (limited_to (B.PriceBoard.face board.now) run) seat ((S.PairSource.table source.now).points run seat) found }
-{
-    match source.points(run, seat) {
-        None => found,
-        Some(points) => {
-            let net = net_points(size, points, board.shows(run, seat));
-            Some(weigh(found, seat, worth_points(size, points), net, floor))
-        }
+    // A seat as a find of its own, if it is allowed.
+    pub(crate) fn value(&self, seat: usize) -> Option<Sought>
+        ensures { result ≡ valued self.now.size self.now.floor (limited_to (B.PriceBoard.face self.now.board.now) self.now.run) seat ((S.PairSource.table self.now.source.now).points self.now.run seat) }
+    {
+        let points = self.source.points(self.run, seat)?;
+        Some(Sought {
+            seat,
+            worth: scaled_points(self.size, points),
+            net: net_points(self.size, points, self.board.shows(self.run, seat)),
+            second: self.floor,
+        })
     }
 }
 
 // A seat put beside what was found below it: it is better only where it nets more.
-pub(crate) fn weigh(found: Option<Sought>, seat: usize, worth: i64, net: i64, floor: i64) -> Sought
-    ensures { result ≡ weighed found seat worth net floor }
+pub(crate) fn weigh(old: Sought, new: Sought) -> Sought
+    ensures { result ≡ weighed old new }
 {
-    match found {
-        None => Sought {
-            seat,
-            worth,
-            net,
-            second: floor,
-        },
-        Some(old) => {
-            if old.net < net {
-                Sought {
-                    seat,
-                    worth,
-                    net,
-                    second: old.second.max(old.net),
-                }
-            } else {
-                Sought {
-                    seat: old.seat,
-                    worth: old.worth,
-                    net: old.net,
-                    second: old.second.max(net),
-                }
-            }
+    if old.net < new.net {
+        Sought {
+            second: old.second.max(old.net),
+            ..new
+        }
+    } else {
+        Sought {
+            second: old.second.max(new.net),
+            ..old
         }
     }
-}
-
-// The scaled points of a seat: its net at the price 0.
-pub(crate) fn worth_points(size: u16, points: i32) -> i64
-    ensures { result ≡ scaled size points }
-{
-    net_points(size, points, 0)
 }
 
 // The price of a bid: one increment more than leaves the run its second value.

@@ -1,7 +1,7 @@
 // What a search finds, and what is offered on it.
 
 // A run's best seat, with its scaled points, its net, and the greatest of the floor and the other seats' nets.
-#[derive(Clone, Copy)]
+#[derive(Clone, Copy, PartialEq, Eq, Debug)]
 pub struct Sought {
     pub seat: usize,
     pub worth: i64,
@@ -10,7 +10,7 @@ pub struct Sought {
 }
 
 // The seat and the price of a bid.
-#[derive(Clone, Copy)]
+#[derive(Clone, Copy, PartialEq, Eq, Debug)]
 pub struct Offer {
     pub seat: usize,
     pub price: u64,

@@ -4,7 +4,7 @@ ghost use Rattle.points.specs.Limits.{price_limit, size_limit, top_limit};
 ghost use Rattle.auction.specs.Limits.{increment_limit};
 
 // The size and the top of a table, and the increment and the high price of a phase.
-#[derive(Clone, Copy)]
+#[derive(Clone, Copy, PartialEq, Eq, Debug)]
 pub struct Terms {
     pub(crate) size: u16,
     pub(crate) top: u32,
