@@ -119,36 +119,32 @@ pub(crate) fn seated_after(seated: usize, displaced: Option<u16>) -> usize
 }
 
 impl Book {
-    // The price of a seat.
+    // The price of a seat, or 0 past the last.
     pub(crate) fn price_at(&self, seat: usize) -> u64
-        requires { seat < 256 }
         ensures { result ≡ price_at self.now seat }
     {
-        self.prices.prices[seat]
+        self.prices.prices.get(seat).copied().unwrap_or(0)
     }
 
     // The seat that a run holds.
     pub(crate) fn seat_at(&self, run: usize) -> Option<u16>
-        requires { run < 256 }
         ensures { result ≡ seat_at self.now run }
     {
-        self.seats[run]
+        self.seats.get(run).copied().flatten()
     }
 
     // The run that holds a seat.
     pub(crate) fn holder_at(&self, seat: usize) -> Option<u16>
-        requires { seat < 256 }
         ensures { result ≡ holder_at self.now seat }
     {
-        self.holders[seat]
+        self.holders.get(seat).copied().flatten()
     }
 
     // The bid of a run that is out.
     pub(crate) fn bid_at(&self, run: usize) -> Option<Bid>
-        requires { run < 256 }
         ensures { result ≡ bid_at self.now run }
     {
-        self.bids[run]
+        self.bids.get(run).copied().flatten()
     }
 
     // The increment of the phase.

@@ -35,7 +35,7 @@ pub(crate) fn higher(a: u64, b: u64) -> u64
     ensures over { (a ≤ result) × (b ≤ result) }
     ensures one { result ≢ a → result ≡ b }
 {
-    if a < b { b } else { a }
+    a.max(b)
 }
 
 impl Book {

@@ -28,7 +28,7 @@ fn start_fault(cause: Cause) -> Fault
 fn increment_at(ladder: &[u64], at: usize) -> u64
     ensures { result ≡ slice_index ladder.now at }
 {
-    if at < ladder.len() { ladder[at] } else { 0 }
+    ladder.get(at).copied().unwrap_or(0)
 }
 
 // Whether an increment falls to the next.

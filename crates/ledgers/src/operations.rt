@@ -28,10 +28,7 @@ pub(crate) fn narrow(number: usize) -> u16
 pub(crate) fn wide(number: Option<u16>) -> Option<usize>
     ensures { result ≡ number }
 {
-    match number {
-        Some(number) => Some(usize::from(number)),
-        None => None,
-    }
+    number.map(usize::from)
 }
 
 impl Ledger {

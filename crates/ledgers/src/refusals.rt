@@ -13,7 +13,6 @@ use crate::operations::wide;
 use fault::causes::Cause;
 use fault::faults::Fault;
 use fault::layers::Layer;
-use points::limits::SIZE_LIMIT;
 
 impl Ledger {
     // A fault in the current phase.
@@ -59,22 +58,14 @@ impl Ledger {
     pub(crate) fn is_seated(&self, run: usize) -> bool
         ensures { result ≡ is_some (seat_at self.now.book run) }
     {
-        if run < SIZE_LIMIT {
-            self.book.seat_at(run).is_some()
-        } else {
-            false
-        }
+        self.book.seat_at(run).is_some()
     }
 
     // The bid of a run that is out.
     pub(crate) fn bid_of(&self, run: usize) -> Option<Bid>
         ensures { result ≡ bid_at self.now.book run }
     {
-        if run < SIZE_LIMIT {
-            self.book.bid_at(run)
-        } else {
-            None
-        }
+        self.book.bid_at(run)
     }
 
     // Whether every run holds a seat.
@@ -102,10 +93,8 @@ impl Ledger {
     pub(crate) fn bid_out(&self, run: usize) -> Result<Bid, Fault>
         ensures { MatchResult result (λ x. bid_at self.now.book run ≡ Some x) (λ f. (bid_at self.now.book run ≡ None) × (f ≡ run_fault self.now.book NoBidOut run)) }
     {
-        match self.bid_of(run) {
-            Some(bid) => Ok(bid),
-            None => Err(self.run_fault(Cause::NoBidOut, run)),
-        }
+        self.bid_of(run)
+            .ok_or(self.run_fault(Cause::NoBidOut, run))
     }
 
     // The next phase may begin.
