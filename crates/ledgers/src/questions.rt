@@ -82,11 +82,6 @@ impl Ledger {
     pub fn lowest_free(&self) -> Option<usize>
         ensures { LowestFree self.now.book result }
     {
-        for run in 0..self.size() {
-            if !self.is_seated(run) {
-                return Some(run);
-            }
-        }
-        None
+        (0..self.size()).find(|&run| !self.is_seated(run))
     }
 }
