@@ -29,6 +29,10 @@ pub is_none : {A : Type 0} (o : Option A) → is_some o ≡ false → o ≡ None
 is_none None e = refl
 is_none (Some x) e = let z : ◌≡◌ {A = ℕ} 0 1 = cc in absurd (omega arith)
 
+pub some_of : {A : Type 0} (o : Option A) → is_some o ≡ true → (x : A) × (o ≡ Some x)
+some_of None e = let z : ◌≡◌ {A = ℕ} 0 1 = cc in absurd (omega arith)
+some_of (Some x) e = (x, refl)
+
 pub not_some : {A : Type 0} (o : Option A) → not (is_some o) ≡ true → o ≡ None
 not_some None e = refl
 not_some (Some x) e = let z : ◌≡◌ {A = ℕ} 0 1 = cc in absurd (omega arith)
@@ -52,6 +56,9 @@ count_none (None ∷ xs) zero x e = none_is_some x e
 count_none (Some y ∷ xs) zero x e = refl
 count_none (None ∷ xs) (suc i) x e = count_none xs i x e
 count_none (Some y ∷ xs) (suc i) x e = ap (λ n. n + 1) (count_none xs i x e)
+
+pub count_out : {A : Type 0} (xs : List (Option A)) (i : ℕ) → is_some (get_or xs i None) ≡ true → count (set xs i None) + 1 ≡ count xs
+count_out xs i e = let x = some_of (get_or xs i None) e in count_none xs i x.0 x.1
 
 -- one entry more
 pub count_some : {A : Type 0} (xs : List (Option A)) (i : ℕ) (x : A) → i < length xs → get_or xs i None ≡ None → count (set xs i (Some x)) ≡ count xs + 1

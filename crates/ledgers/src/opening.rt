@@ -1,12 +1,9 @@
 // The start of an auction.
 ghost use Rattle.std.specs.Prelude.{◌≡◌, ◌+◌, ◌-◌, ◌≤◌, length, MatchResult};
 ghost use Rattle.fault.specs.Checks.{Passes, Refuses};
-ghost use Rattle.points.specs.Limits.{size_limit};
-ghost use Rattle.auction.specs.Limits.{increment_limit, allowance_limit};
-ghost use Rattle.ledgers.specs.Books.{blank};
+ghost use Rattle.auction.specs.Limits.{phase_limit};
 ghost use Rattle.ledgers.specs.Ledgers.{Starts};
 ghost use Rattle.ledgers.specs.Opening.{Copied};
-ghost use Rattle.ledgers.specs.Rules.{UpTo};
 ghost use Rattle.ledgers.specs.Refusals.{start_fault, fall_checks, ladder_checks, start_checks};
 
 use crate::books::{Book, Conditions};
@@ -56,25 +53,12 @@ fn check_start(size: usize, ladder: &[u64], allowance: u64) -> Result<(), Fault>
 
 // The increments, and zeros behind them.
 fn padded(ladder: &[u64]) -> [u64; PHASE_LIMIT]
-    requires { length ladder.now ≤ 16 }
+    requires { length ladder.now ≤ phase_limit }
     ensures { Copied ladder.now result }
 {
     let mut increments = [0; PHASE_LIMIT];
     increments[..ladder.len()].copy_from_slice(ladder);
     increments
-}
-
-// The ledger of an auction that starts under these conditions.
-fn begin(conditions: Conditions) -> Ledger
-    requires sized { (1 ≤ conditions.size) × (conditions.size ≤ size_limit) }
-    requires phased { (1 ≤ conditions.phases) × (conditions.phases ≤ 16) }
-    requires small { UpTo increment_limit conditions.increments }
-    requires allowance { conditions.allowance ≤ allowance_limit }
-    requires long { length conditions.increments ≡ 16 }
-    ensures { result.book ≡ blank conditions }
-{
-    let book = Book::new(conditions);
-    Ledger { book }
 }
 
 impl Ledger {
@@ -87,11 +71,12 @@ impl Ledger {
         check_start(size, ladder, allowance)?;
         let increments = padded(ladder);
         let phases = ladder.len();
-        Ok(begin(Conditions {
+        let book = Book::new(Conditions {
             size,
             increments,
             phases,
             allowance,
-        }))
+        });
+        Ok(Ledger { book })
     }
 }

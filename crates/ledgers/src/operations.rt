@@ -1,27 +1,23 @@
 // The events of an auction in its ledger: bids placed, delivered and recalled, the mark, and the next phase.
-ghost use Rattle.std.specs.Prelude.{◌≡◌, ℕ, ◌+◌, ◌*◌, ◌<◌, ◌≤◌, Some, None};
+ghost use Rattle.std.specs.Prelude.{◌≡◌, ◌+◌, ◌*◌, ◌<◌, ◌≤◌, IsSome};
+ghost use Rattle.fault.specs.Checks.{Passes};
+ghost use Rattle.auction.specs.Events.{Highest};
 ghost use Rattle.ledgers.specs.Rules.{phase_rise};
-ghost use Rattle.ledgers.specs.Books.{price_at, increment_of};
+ghost use Rattle.ledgers.specs.Books.{price_at, bid_at, increment_of, Ends, dropped};
 ghost use Rattle.ledgers.specs.Ledgers.{size_of, Ready, Deliverable, Composes, Marks, Lands, Outbids, Recalls, Advances};
+ghost use Rattle.ledgers.specs.Refusals.{advance_checks};
 
-use crate::books::Bid;
+use crate::books::{Bid, Counts, free, seated_after};
 use crate::ledger::Ledger;
+use points::limits::SIZE_LIMIT;
 
 // How an accepted bid came out.
-#[derive(Clone, Copy)]
+#[derive(Clone, Copy, PartialEq, Eq, Debug)]
 pub struct Landing {
     pub seat: usize,
     pub price: u64,
     // the run that held the seat
     pub displaced: Option<usize>,
-}
-
-// A run or a seat in two bytes.
-pub(crate) fn narrow(number: usize) -> u16
-    requires { number < 256 }
-    ensures { result ≡ number }
-{
-    number as u16
 }
 
 // A run or a seat, if there is one, as a number of any size.
@@ -38,8 +34,9 @@ impl Ledger {
         requires fit { (seat < size_of self.old) × (price ≤ self.old.book.phase * phase_rise) }
         ensures { Composes self.old.book self.new.book run seat price }
     {
-        let seat = narrow(seat);
-        self.book.place(run, Bid { seat, price });
+        let seat = seat as u16;
+        self.book.bids[run] = Some(Bid { seat, price });
+        self.book.counts.composed += 1;
     }
 
     // A run is found to have no part in a full plan.
@@ -47,8 +44,7 @@ impl Ledger {
         requires { Ready self.old.book run }
         ensures { Marks self.old.book self.new.book run }
     {
-        let run = narrow(run);
-        self.book.mark(run);
+        self.book.mark = Some(run as u16);
     }
 
     // A run's bid is accepted.
@@ -57,13 +53,31 @@ impl Ledger {
         requires enough { price_at self.old.book bid.seat + increment_of self.old.book ≤ bid.price }
         ensures { Lands self.old.book self.new.book run result.seat result.price result.displaced }
     {
-        let holder = narrow(run);
-        let displaced = wide(self.book.land(holder, bid));
+        let seat = usize::from(bid.seat);
+        let displaced = self.book.holders[seat];
+        free(&mut self.book.seats, displaced);
+        self.book.seats[run] = Some(bid.seat);
+        self.book.seated = seated_after(self.book.seated, displaced);
+        self.book.holders[seat] = Some(run as u16);
+        self.book.prices.prices[seat] = bid.price;
+        self.book.bids[run] = None;
+        self.book.counts.accepted += 1;
+        self.book.counts.phase_accepted += 1;
         Landing {
-            seat: usize::from(bid.seat),
+            seat,
             price: bid.price,
-            displaced,
+            displaced: wide(displaced),
         }
+    }
+
+    // A run's bid is out no more, and these are the counts then.
+    fn drop_bid(&mut self, run: usize, counts: Counts)
+        requires out { IsSome (bid_at self.old.book run) }
+        requires ends { Ends self.old.book.counts counts }
+        ensures { self.new.book ≡ dropped self.old.book run counts }
+    {
+        self.book.bids[run] = None;
+        self.book.counts = counts;
     }
 
     // A run's bid is dropped, since it is outbid.
@@ -72,6 +86,44 @@ impl Ledger {
         requires little { bid.price < price_at self.old.book bid.seat + increment_of self.old.book }
         ensures { Outbids self.old.book self.new.book run bid.seat (price_at self.old.book bid.seat) }
     {
-        self.book.drop_outbid(run);
+        let counts = self.book.counts;
+        let outbid = counts.outbid + 1;
+        self.drop_bid(run, Counts { outbid, ..counts });
+    }
+
+    // A run's bid is dropped, since it is recalled.
+    pub(crate) fn drop_recalled(&mut self, run: usize)
+        requires low { run < size_of self.old }
+        requires out { IsSome (bid_at self.old.book run) }
+        ensures { Recalls self.old.book self.new.book run }
+    {
+        let counts = self.book.counts;
+        let recalled = counts.recalled + 1;
+        self.drop_bid(run, Counts { recalled, ..counts });
+    }
+
+    // The highest price.
+    pub(crate) fn highest(&self) -> u64
+        ensures { Highest (size_of self.now) (price_at self.now.book) result }
+    {
+        self.book.prices.prices[..self.book.conditions.size]
+            .iter()
+            .copied()
+            .max()
+            .unwrap_or(0)
+    }
+
+    // The next phase begins.
+    pub(crate) fn begin_phase(&mut self)
+        requires { Passes (advance_checks self.old.book) }
+        ensures { Advances self.old.book self.new.book }
+    {
+        let high = self.highest();
+        self.book.phase += 1;
+        self.book.high = high;
+        self.book.seats = [None; SIZE_LIMIT];
+        self.book.holders = [None; SIZE_LIMIT];
+        self.book.seated = 0;
+        self.book.counts.phase_accepted = 0;
     }
 }
