@@ -1,5 +1,6 @@
 -- The parts of a book, and the book of an auction that starts.
 use Rattle.std.specs.Prelude.{◌≡◌, ℕ, ◌+◌, ◌-◌, List, take, replicate, Some, None, Option, slice_index, slice_index_or, slice_set}
+use Rattle.points.specs.Limits.{size_limit}
 use Rattle.ledgers.specs.declared.books.Bid.{Bid}
 use Rattle.ledgers.specs.declared.books.Book.{Book}
 use Rattle.ledgers.specs.declared.books.Conditions.{Conditions}
@@ -52,11 +53,11 @@ blank c = record {
   conditions = c;
   phase = 1;
   high = 0;
-  prices = record { prices = replicate 256 0 };
-  seats = replicate 256 None;
-  holders = replicate 256 None;
+  prices = record { prices = replicate size_limit 0 };
+  seats = replicate size_limit None;
+  holders = replicate size_limit None;
   seated = 0;
-  bids = replicate 256 None;
+  bids = replicate size_limit None;
   mark = None;
   counts = record { composed = 0; accepted = 0; outbid = 0; recalled = 0; phase_accepted = 0 };
 }

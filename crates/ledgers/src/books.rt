@@ -55,6 +55,13 @@ pub struct Book {
     pub counts: Counts,
 }
 
+// A run or a seat, if there is one, as a number of any size.
+pub(crate) fn wide(number: Option<u16>) -> Option<usize>
+    ensures { result ≡ number }
+{
+    number.map(usize::from)
+}
+
 // The run displaced, if any, holds no seat any more.
 pub(crate) fn free(seats: &mut [Option<u16>; SIZE_LIMIT], displaced: Option<u16>)
     requires { IfSome displaced (λ r. r < size_limit) }
@@ -85,17 +92,17 @@ impl Book {
     }
 
     // The seat that a run holds.
-    pub(crate) fn seat_at(&self, run: usize) -> Option<u16>
+    pub(crate) fn seat_at(&self, run: usize) -> Option<usize>
         ensures { result ≡ seat_at self.now run }
     {
-        self.seats.get(run).copied().flatten()
+        wide(self.seats.get(run).copied().flatten())
     }
 
     // The run that holds a seat.
-    pub(crate) fn holder_at(&self, seat: usize) -> Option<u16>
+    pub(crate) fn holder_at(&self, seat: usize) -> Option<usize>
         ensures { result ≡ holder_at self.now seat }
     {
-        self.holders.get(seat).copied().flatten()
+        wide(self.holders.get(seat).copied().flatten())
     }
 
     // The bid of a run that is out.

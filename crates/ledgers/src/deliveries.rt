@@ -8,7 +8,7 @@ ghost use Rattle.ledgers.specs.Ledgers.{Deliverable, Recalls, Advances};
 ghost use Rattle.ledgers.specs.Deliveries.{Delivers};
 ghost use Rattle.ledgers.specs.Refusals.{deliver_checks, recall_checks, advance_checks};
 
-use crate::books::{Bid, Book};
+use crate::books::{Bid, Counts};
 use crate::ledger::Ledger;
 use crate::operations::Landing;
 use fault::faults::Fault;
@@ -29,17 +29,17 @@ impl Ledger {
         bid.price >= self.book.price_at(usize::from(bid.seat)) + self.increment()
     }
 
-    // A bid that can be delivered lands, or is outbid and dropped.
-    pub(crate) fn settle_bid(&mut self, run: usize, bid: Bid) -> Delivery
-        requires { Deliverable self.old.book run bid }
+    // A run's bid is outbid at its seat's price, and dropped.
+    pub(crate) fn outbid(&mut self, run: usize, bid: Bid) -> Delivery
+        requires bid { Deliverable self.old.book run bid }
+        requires little { bid.price < price_at self.old.book bid.seat + increment_of self.old.book }
         ensures { Delivers self.old.book self.new.book run result }
     {
-        if self.reaches(bid) {
-            return Delivery::Accepted(self.land(run, bid));
-        }
         let seat = usize::from(bid.seat);
         let price = self.book.price_at(seat);
-        self.drop_outbid(run, bid);
+        let counts = self.book.counts;
+        let outbid = counts.outbid + 1;
+        self.drop_bid(run, Counts { outbid, ..counts });
         Delivery::Outbid { seat, price }
     }
 
@@ -50,7 +50,10 @@ impl Ledger {
             (λ f. Refuses (deliver_checks self.old.book run) f × (self.new.book ≡ self.old.book)) }
     {
         let bid = self.check_deliver(run)?;
-        Ok(self.settle_bid(run, bid))
+        if self.reaches(bid) {
+            return Ok(Delivery::Accepted(self.land(run, bid)));
+        }
+        Ok(self.outbid(run, bid))
     }
 
     // Drops a run's bid.
@@ -60,7 +63,9 @@ impl Ledger {
             (λ f. Refuses (recall_checks self.old.book run) f × (self.new.book ≡ self.old.book)) }
     {
         self.check_recall(run)?;
-        self.drop_recalled(run);
+        let counts = self.book.counts;
+        let recalled = counts.recalled + 1;
+        self.drop_bid(run, Counts { recalled, ..counts });
         Ok(())
     }
 

@@ -4,10 +4,10 @@ ghost use Rattle.fault.specs.Checks.{Passes};
 ghost use Rattle.auction.specs.Events.{Highest};
 ghost use Rattle.ledgers.specs.Rules.{phase_rise};
 ghost use Rattle.ledgers.specs.Books.{price_at, bid_at, increment_of, Ends, dropped};
-ghost use Rattle.ledgers.specs.Ledgers.{size_of, Ready, Deliverable, Composes, Marks, Lands, Outbids, Recalls, Advances};
+ghost use Rattle.ledgers.specs.Ledgers.{size_of, Ready, Deliverable, Composes, Marks, Lands, Advances};
 ghost use Rattle.ledgers.specs.Refusals.{advance_checks};
 
-use crate::books::{Bid, Counts, free, seated_after};
+use crate::books::{Bid, Counts, free, seated_after, wide};
 use crate::ledger::Ledger;
 use points::limits::SIZE_LIMIT;
 
@@ -18,13 +18,6 @@ pub struct Landing {
     pub price: u64,
     // the run that held the seat
     pub displaced: Option<usize>,
-}
-
-// A run or a seat, if there is one, as a number of any size.
-pub(crate) fn wide(number: Option<u16>) -> Option<usize>
-    ensures { result ≡ number }
-{
-    number.map(usize::from)
 }
 
 impl Ledger {
@@ -71,35 +64,13 @@ impl Ledger {
     }
 
     // A run's bid is out no more, and these are the counts then.
-    fn drop_bid(&mut self, run: usize, counts: Counts)
+    pub(crate) fn drop_bid(&mut self, run: usize, counts: Counts)
         requires out { IsSome (bid_at self.old.book run) }
         requires ends { Ends self.old.book.counts counts }
         ensures { self.new.book ≡ dropped self.old.book run counts }
     {
         self.book.bids[run] = None;
         self.book.counts = counts;
-    }
-
-    // A run's bid is dropped, since it is outbid.
-    pub(crate) fn drop_outbid(&mut self, run: usize, bid: Bid)
-        requires bid { Deliverable self.old.book run bid }
-        requires little { bid.price < price_at self.old.book bid.seat + increment_of self.old.book }
-        ensures { Outbids self.old.book self.new.book run bid.seat (price_at self.old.book bid.seat) }
-    {
-        let counts = self.book.counts;
-        let outbid = counts.outbid + 1;
-        self.drop_bid(run, Counts { outbid, ..counts });
-    }
-
-    // A run's bid is dropped, since it is recalled.
-    pub(crate) fn drop_recalled(&mut self, run: usize)
-        requires low { run < size_of self.old }
-        requires out { IsSome (bid_at self.old.book run) }
-        ensures { Recalls self.old.book self.new.book run }
-    {
-        let counts = self.book.counts;
-        let recalled = counts.recalled + 1;
-        self.drop_bid(run, Counts { recalled, ..counts });
     }
 
     // The highest price.

@@ -7,9 +7,8 @@ ghost use Rattle.ledgers.specs.Rules.{count};
 ghost use Rattle.ledgers.specs.Ledgers.{Ready};
 ghost use Rattle.ledgers.specs.Refusals.{phase_fault, run_fault, run_checks, seat_checks, mark_checks, compose_checks, deliver_checks, recall_checks, advance_checks};
 
-use crate::books::Bid;
+use crate::books::{Bid, wide};
 use crate::ledger::Ledger;
-use crate::operations::wide;
 use fault::causes::Cause;
 use fault::faults::Fault;
 use fault::layers::Layer;
@@ -54,20 +53,6 @@ impl Ledger {
             .unless(mark.is_none())
     }
 
-    // Whether a run holds a seat.
-    pub(crate) fn is_seated(&self, run: usize) -> bool
-        ensures { result ≡ is_some (seat_at self.now.book run) }
-    {
-        self.book.seat_at(run).is_some()
-    }
-
-    // The bid of a run that is out.
-    pub(crate) fn bid_of(&self, run: usize) -> Option<Bid>
-        ensures { result ≡ bid_at self.now.book run }
-    {
-        self.book.bid_at(run)
-    }
-
     // Whether every run holds a seat.
     pub(crate) fn is_complete(&self) -> bool
         ensures { result ≡ (count self.now.book.seats == self.now.book.conditions.size) }
@@ -82,9 +67,9 @@ impl Ledger {
         self.check_run(run)?;
         self.check_mark()?;
         self.run_fault(Cause::HoldsSeat, run)
-            .unless(!self.is_seated(run))?;
+            .unless(self.book.seat_at(run).is_none())?;
         self.run_fault(Cause::BidOut, run)
-            .unless(self.bid_of(run).is_none())?;
+            .unless(self.book.bid_at(run).is_none())?;
         self.run_fault(Cause::AllowanceSpent, run)
             .unless(self.book.counts.composed < self.book.conditions.allowance)
     }
@@ -93,7 +78,8 @@ impl Ledger {
     pub(crate) fn bid_out(&self, run: usize) -> Result<Bid, Fault>
         ensures { MatchResult result (λ x. bid_at self.now.book run ≡ Some x) (λ f. (bid_at self.now.book run ≡ None) × (f ≡ run_fault self.now.book NoBidOut run)) }
     {
-        self.bid_of(run)
+        self.book
+            .bid_at(run)
             .ok_or(self.run_fault(Cause::NoBidOut, run))
     }
 

@@ -1,16 +1,20 @@
-use Rattle.std.proofs.Common.{◌≡◌, ℕ, ◌<◌, ◌≤◌, true, false, is_some, Some, None, Option, MatchOption, rules, arith}
-use Rattle.std.proofs.lemmas.Iterator.{first_from_Range}
+use Rattle.std.proofs.Common.{◌≡◌, ℕ, ◌<◌, ◌≤◌, true, false, length, get_or, take, is_some, Some, None, Option, MatchOption, sym, ap, ◌∙◌, rules, arith, length-take, get_or-take}
+use Rattle.std.proofs.iter.runs.Made.{chains}
 use Rattle.ledgers.specs.declared.books.Book.{Book}
-use Rattle.ledgers.specs.Books.{seat_at}
 use Rattle.ledgers.specs.Ledgers.{LowestFree}
 use Rattle.ledgers.proofs.ledger.Ledger.lowest_free.Goals as goal
 
--- the first run of all that holds no seat
-lowest : (b : Book) (o : Option ℕ) → MatchOption o ((r : ℕ) → 0 ≤ r → r < b.conditions.size → is_some (seat_at b r) ≡ true) (λ i. (0 ≤ i) × (i < b.conditions.size) × (is_some (seat_at b i) ≡ false) × ((r : ℕ) → 0 ≤ r → r < i → is_some (seat_at b r) ≡ true)) → LowestFree b o
-lowest b None h = λ r l. h r (omega arith) l
-lowest b (Some i) h = (h.1, h.2, λ r l. h.3 r (omega arith) l)
+-- the first place of the seats below the size that has no entry
+lowest : (b : Book) (n : ℕ) (o : Option ℕ) → n ≡ b.conditions.size → n ≤ length b.seats → MatchOption o ((k : ℕ) → k < length (take n b.seats) → is_some (get_or (take n b.seats) k None) ≡ true) (λ i. (i < length (take n b.seats)) × (is_some (get_or (take n b.seats) i None) ≡ false) × ((k : ℕ) → k < i → is_some (get_or (take n b.seats) k None) ≡ true)) → LowestFree b o
+lowest b n None e long h = λ r l. let w : r < n = omega (arith, e, l) in ap is_some (sym (get_or-take n b.seats r None w)) ∙ h r (omega (arith, length-take n b.seats, w, long))
+lowest b n (Some i) e long (l, free, before) =
+    let low : i < n = omega (arith, length-take n b.seats, l) in (
+      omega (arith, e, low),
+      ap is_some (sym (get_or-take n b.seats i None low)) ∙ free,
+      λ r w. ap is_some (sym (get_or-take n b.seats r None (omega (arith, w, low)))) ∙ before r w,
+    )
 
 pub returns : goal.returns
 returns c =
-    let b : Book = c.args.self.now.book in
-    lowest b c.find.result (rw c.size.ensures.is at (first_from_Range _ _ _ c.find.result (λ i. is_some (seat_at b i) ≡ false) (λ i. is_some (seat_at b i) ≡ true) c.find.ensures.ran (λ x q k. search rules) (λ x q k. search rules)))
+    let s = c.args.self.now in
+    lowest s.book c.size.result c.position.result c.size.ensures.is (omega (arith, c.size.ensures.is, s.sized.1, s.whole.0)) (search (rules, chains))
