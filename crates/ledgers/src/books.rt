@@ -1,4 +1,4 @@
-// The book of an auction, and the single writes that its events make.
+// The book of an auction, and how it is read.
 ghost use Rattle.std.specs.Prelude.{◌≡◌, ◌<◌, ◌≤◌, IfSome};
 ghost use Rattle.points.specs.Limits.{size_limit};
 ghost use Rattle.ledgers.specs.Books.{price_at, seat_at, holder_at, bid_at, freed, seated_after, blank};
@@ -19,7 +19,7 @@ pub struct Bid {
 pub struct Conditions {
     // how many runs there are, and as many seats
     pub size: usize,
-    // the increments, of which the first `phases` count
+    // the increments, of which the first `phases` count; an `ArrayVec` is not `Copy`, and a book is: no call allocates
     pub increments: [u64; PHASE_LIMIT],
     pub phases: usize,
     // how many bids may be composed
@@ -37,6 +37,7 @@ pub struct Counts {
     pub phase_accepted: u64,
 }
 
+// Each rule of a book is about one or two whole lists, so they are lists side by side, and no list of structs.
 #[derive(Clone, Copy)]
 pub struct Book {
     pub conditions: Conditions,

@@ -30,7 +30,7 @@ impl Ledger {
         self.check_composing(source.size(), run)?;
         match self.seek_bid(source, board, run) {
             Some(offer) => {
-                self.place(run, offer.seat, offer.price);
+                self.place(run, offer);
                 Ok(offer)
             }
             None => {

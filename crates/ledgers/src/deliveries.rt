@@ -1,9 +1,7 @@
 // Delivering and recalling bids, and the next phase: with their refusals.
-ghost use Rattle.std.specs.Prelude.{◌≡◌, ℕ, ◌+◌, ◌*◌, ◌<◌, ◌≤◌, ◌≢◌, Some, None, MatchResult, nat_le};
+ghost use Rattle.std.specs.Prelude.{◌≡◌, ◌+◌, ◌<◌, MatchResult, nat_le};
 ghost use Rattle.fault.specs.Checks.{Passes, Refuses};
-ghost use Rattle.ledgers.specs.Rules.{phase_rise};
-ghost use Rattle.ledgers.specs.Books.{price_at, bid_at, increment_of};
-ghost use Rattle.auction.specs.Events.{Highest};
+ghost use Rattle.ledgers.specs.Books.{price_at, increment_of};
 ghost use Rattle.ledgers.specs.Ledgers.{Deliverable, Recalls, Advances};
 ghost use Rattle.ledgers.specs.Deliveries.{Delivers};
 ghost use Rattle.ledgers.specs.Refusals.{deliver_checks, recall_checks, advance_checks};
@@ -13,11 +11,11 @@ use crate::ledger::Ledger;
 use crate::operations::Landing;
 use fault::faults::Fault;
 
-// How a delivered bid comes out.
+// How a delivered bid comes out. No `Result`: both are answers of a delivery that went through.
 #[derive(Clone, Copy, PartialEq, Eq, Debug)]
 pub enum Delivery {
     Accepted(Landing),
-    // the seat and its price
+    // at this seat and its price
     Outbid { seat: usize, price: u64 },
 }
 

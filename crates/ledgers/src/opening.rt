@@ -1,5 +1,5 @@
 // The start of an auction.
-ghost use Rattle.std.specs.Prelude.{◌≡◌, ◌+◌, ◌-◌, ◌≤◌, length, MatchResult};
+ghost use Rattle.std.specs.Prelude.{◌≡◌, ◌-◌, ◌≤◌, length, MatchResult};
 ghost use Rattle.fault.specs.Checks.{Passes, Refuses};
 ghost use Rattle.auction.specs.Limits.{phase_limit};
 ghost use Rattle.ledgers.specs.Ledgers.{Starts};

@@ -1,4 +1,4 @@
-// The events of an auction in its ledger: bids placed, delivered and recalled, the mark, and the next phase.
+// The events of an auction in its ledger: bids placed, landed and dropped, the mark, and the next phase.
 ghost use Rattle.std.specs.Prelude.{◌≡◌, ◌+◌, ◌*◌, ◌<◌, ◌≤◌, IsSome};
 ghost use Rattle.fault.specs.Checks.{Passes};
 ghost use Rattle.auction.specs.Events.{Highest};
@@ -9,6 +9,7 @@ ghost use Rattle.ledgers.specs.Refusals.{advance_checks};
 
 use crate::books::{Bid, Counts, free, seated_after, wide};
 use crate::ledger::Ledger;
+use bidding::sought::Offer;
 use points::limits::SIZE_LIMIT;
 
 // How an accepted bid came out.
@@ -22,13 +23,15 @@ pub struct Landing {
 
 impl Ledger {
     // A run's bid is out.
-    pub(crate) fn place(&mut self, run: usize, seat: usize, price: u64)
+    pub(crate) fn place(&mut self, run: usize, offer: Offer)
         requires ready { Ready self.old.book run }
-        requires fit { (seat < size_of self.old) × (price ≤ self.old.book.phase * phase_rise) }
-        ensures { Composes self.old.book self.new.book run seat price }
+        requires fit { (offer.seat < size_of self.old) × (offer.price ≤ self.old.book.phase * phase_rise) }
+        ensures { Composes self.old.book self.new.book run offer.seat offer.price }
     {
-        let seat = seat as u16;
-        self.book.bids[run] = Some(Bid { seat, price });
+        self.book.bids[run] = Some(Bid {
+            seat: offer.seat as u16,
+            price: offer.price,
+        });
         self.book.counts.composed += 1;
     }
 
@@ -40,7 +43,7 @@ impl Ledger {
         self.book.mark = Some(run as u16);
     }
 
-    // A run's bid is accepted.
+    // A run's bid is accepted. That it can be delivered is a fact about the ledger, which no type of the bid can hold.
     pub(crate) fn land(&mut self, run: usize, bid: Bid) -> Landing
         requires bid { Deliverable self.old.book run bid }
         requires enough { price_at self.old.book bid.seat + increment_of self.old.book ≤ bid.price }

@@ -1,8 +1,8 @@
 // The tests of each call of a started auction, in their order.
-ghost use Rattle.std.specs.Prelude.{◌≡◌, is_some, Some, None, MatchResult, OnOk, ◌==◌};
+ghost use Rattle.std.specs.Prelude.{◌≡◌, Some, None, MatchResult, OnOk, ◌==◌};
 ghost use Rattle.fault.specs.Checks.{Passes, Refuses};
 ghost use Rattle.fault.specs.declared.causes.Cause.TheVariants.{NoBidOut};
-ghost use Rattle.ledgers.specs.Books.{seat_at, bid_at};
+ghost use Rattle.ledgers.specs.Books.{bid_at};
 ghost use Rattle.ledgers.specs.Rules.{count};
 ghost use Rattle.ledgers.specs.Ledgers.{Ready};
 ghost use Rattle.ledgers.specs.Refusals.{phase_fault, run_fault, run_checks, seat_checks, mark_checks, compose_checks, deliver_checks, recall_checks, advance_checks};
@@ -60,20 +60,6 @@ impl Ledger {
         self.book.seated == self.book.conditions.size
     }
 
-    // A run may compose a bid.
-    pub(crate) fn test_compose(&self, run: usize) -> Result<(), Fault>
-        ensures { MatchResult result (λ _. Passes (compose_checks self.now.book run)) (λ f. Refuses (compose_checks self.now.book run) f) }
-    {
-        self.check_run(run)?;
-        self.check_mark()?;
-        self.run_fault(Cause::HoldsSeat, run)
-            .unless(self.book.seat_at(run).is_none())?;
-        self.run_fault(Cause::BidOut, run)
-            .unless(self.book.bid_at(run).is_none())?;
-        self.run_fault(Cause::AllowanceSpent, run)
-            .unless(self.book.counts.composed < self.book.conditions.allowance)
-    }
-
     // The bid of a run that is out, or the fault where there is none.
     pub(crate) fn bid_out(&self, run: usize) -> Result<Bid, Fault>
         ensures { MatchResult result (λ x. bid_at self.now.book run ≡ Some x) (λ f. (bid_at self.now.book run ≡ None) × (f ≡ run_fault self.now.book NoBidOut run)) }
@@ -116,6 +102,13 @@ impl Ledger {
         ensures is { MatchResult result (λ _. Passes (compose_checks self.now.book run)) (λ f. Refuses (compose_checks self.now.book run) f) }
         ensures ready { OnOk result (Ready self.now.book run) }
     {
-        self.test_compose(run)
+        self.check_run(run)?;
+        self.check_mark()?;
+        self.run_fault(Cause::HoldsSeat, run)
+            .unless(self.book.seat_at(run).is_none())?;
+        self.run_fault(Cause::BidOut, run)
+            .unless(self.book.bid_at(run).is_none())?;
+        self.run_fault(Cause::AllowanceSpent, run)
+            .unless(self.book.counts.composed < self.book.conditions.allowance)
     }
 }

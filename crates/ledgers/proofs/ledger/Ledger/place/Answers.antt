@@ -13,5 +13,5 @@ invariant_of-self-clause-waiting c = waiting_some _ _ _ _ c.args.self.now.waitin
 pub invariant_of-self-clause-balanced : goal.invariant_of-self-clause-balanced
 invariant_of-self-clause-balanced c =
     let s = c.args.self.now in
-    let x : Bid = record { seat = c.args.seat; price = c.args.price } in
+    let x : Bid = record { seat = c.args.offer.seat; price = c.args.offer.price } in
     omega (arith, count_some s.book.bids c.args.run x (omega (arith, c.requires.ready.low, s.sized.1, s.whole.2)) c.requires.ready.idle, s.balanced)
