@@ -27,7 +27,7 @@ impl Ledger {
         Ok(self.book.holder_at(seat))
     }
 
-    // The seat that a run holds.
+    // The seat that a run holds: read in another list than `holder`, behind another test, so a function of its own.
     pub fn seat_of(&self, run: usize) -> Result<Option<usize>, Fault>
         ensures { MatchResult result (λ o. Passes (run_checks self.now.book run) × (o ≡ seat_at self.now.book run)) (λ f. Refuses (run_checks self.now.book run) f) }
     {
