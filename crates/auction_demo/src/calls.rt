@@ -57,7 +57,7 @@ fn deliver<B: PriceBoard>(
             board.tell(landing.seat, landing.price);
             print_landing(rt, run, landing)?;
         }
-        Ok(Delivery::Outbid(seat, price)) => {
+        Ok(Delivery::Outbid { seat, price }) => {
             println!(rt; "  deliver {run} -> outbid seat {seat} price {price}")?
         }
         Err(fault) => println!(rt; "  deliver {run} -> {fault}")?,

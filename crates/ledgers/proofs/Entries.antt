@@ -1,7 +1,7 @@
 -- Lists with entries that may be absent: reading after a write, counting, and lists that return each other.
-use Rattle.std.proofs.Common.{◌≡◌, ℕ, zero, suc, ◌+◌, ◌<◌, ◌≤◌, true, false, not, eqb, ◌⊎◌, List, [], ◌∷◌, length, get_or, set, replicate, is_some, IfSome, Some, None, Option, sym, refl, ap, ◌∙◌, inl, inr, le_of_suc-le-suc, not-suc-le-zero, arith}
+use Rattle.std.proofs.Common.{◌≡◌, ℕ, zero, suc, ◌+◌, ◌<◌, ◌≤◌, true, false, not, List, [], ◌∷◌, length, get_or, set, replicate, is_some, Some, None, Option, sym, refl, ap, ◌∙◌, le_of_suc-le-suc, not-suc-le-zero, arith}
 use Rattle.std.proofs.lemmas.Bool.{eqb-true}
-use Rattle.std.proofs.lemmas.Bool.Decides.{eqb_tells}
+use Rattle.std.proofs.lemmas.Bool.Decides.{nat_tests}
 use Rattle.ledgers.specs.Rules.{count, names}
 
 -- what holds of every entry at its place, and of a new one, holds once that is put in
@@ -20,30 +20,30 @@ same (suc n) a (suc k) = same n a k
 
 -- nothing is not something
 pub none_is_some : {A B : Type 0} (x : A) → None ≡ Some x → B
-none_is_some x e = let z : ◌≡◌ {A = ℕ} 0 1 = cc in absurd (omega arith)
+none_is_some x e = cc
 
 pub empty_some : {A B : Type 0} (n k : ℕ) (x : A) → get_or (replicate n None) k None ≡ Some x → B
 empty_some {A} n k x e = none_is_some x (sym (same {A = Option A} n None k) ∙ e)
 
 pub is_none : {A : Type 0} (o : Option A) → is_some o ≡ false → o ≡ None
 is_none None e = refl
-is_none (Some x) e = let z : ◌≡◌ {A = ℕ} 0 1 = cc in absurd (omega arith)
+is_none (Some x) e = cc
+
+pub some_of : {A : Type 0} (o : Option A) → is_some o ≡ true → (x : A) × (o ≡ Some x)
+some_of None e = cc
+some_of (Some x) e = (x, refl)
 
 pub not_some : {A : Type 0} (o : Option A) → not (is_some o) ≡ true → o ≡ None
 not_some None e = refl
-not_some (Some x) e = let z : ◌≡◌ {A = ℕ} 0 1 = cc in absurd (omega arith)
+not_some (Some x) e = cc
 
 pub names_some : (o : Option ℕ) (a : ℕ) → names o a ≡ true → o ≡ Some a
-names_some None a e = let z : ◌≡◌ {A = ℕ} 0 1 = cc in absurd (omega arith)
+names_some None a e = cc
 names_some (Some b) a e = ap Some (eqb-true b a e)
 
 pub some_names : (o : Option ℕ) (a : ℕ) → o ≡ Some a → names o a ≡ true
 some_names None a e = none_is_some a e
-some_names (Some b) a e = go (eqb_tells b a)
-  where
-    go : ((eqb b a ≡ true) × (b ≡ a)) ⊎ ((eqb b a ≡ false) × (b ≡ a → ⊥)) → eqb b a ≡ true
-    go (inl g) = g.0
-    go (inr g) = let q : b ≡ a = cc in absurd (g.1 q)
+some_names (Some b) a e = let q : b ≡ a = cc in grind (arith, nat_tests)
 
 -- one entry fewer
 pub count_none : {A : Type 0} (xs : List (Option A)) (i : ℕ) (x : A) → get_or xs i None ≡ Some x → count (set xs i None) + 1 ≡ count xs
@@ -52,6 +52,9 @@ count_none (None ∷ xs) zero x e = none_is_some x e
 count_none (Some y ∷ xs) zero x e = refl
 count_none (None ∷ xs) (suc i) x e = count_none xs i x e
 count_none (Some y ∷ xs) (suc i) x e = ap (λ n. n + 1) (count_none xs i x e)
+
+pub count_out : {A : Type 0} (xs : List (Option A)) (i : ℕ) → is_some (get_or xs i None) ≡ true → count (set xs i None) + 1 ≡ count xs
+count_out xs i e = let x = some_of (get_or xs i None) e in count_none xs i x.0 x.1
 
 -- one entry more
 pub count_some : {A : Type 0} (xs : List (Option A)) (i : ℕ) (x : A) → i < length xs → get_or xs i None ≡ None → count (set xs i (Some x)) ≡ count xs + 1
@@ -82,8 +85,3 @@ count_full (Some x ∷ xs) zero h e i l = absurd (not-suc-le-zero l)
 count_full (None ∷ xs) (suc n) h e i l = let r : count xs ≤ n = count_most xs n (λ a x q. le_of_suc-le-suc (h (suc a) x q)) in absurd (omega (arith, r, e))
 count_full (Some x ∷ xs) (suc n) h e zero l = (x, refl)
 count_full (Some x ∷ xs) (suc n) h e (suc i) l = let f : count xs ≡ n = omega (arith, e) in count_full xs n (λ a y q. le_of_suc-le-suc (h (suc a) y q)) f i (le_of_suc-le-suc l)
-
--- a rule on each entry that is there, at one entry
-pub found_at : {A : Type 0} (o : Option A) (P : A → Type 0) → ((x : A) → o ≡ Some x → P x) → IfSome o P
-found_at None P h = tt
-found_at (Some x) P h = h x refl

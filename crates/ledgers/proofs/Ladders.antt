@@ -1,5 +1,6 @@
 -- Ladders that pass their checks, in a row that begins with them.
-use Rattle.std.proofs.Common.{◌≡◌, ℕ, zero, suc, ◌+◌, ◌-◌, ◌<◌, ◌≤◌, true, eqb, leb, List, [], ◌∷◌, length, get_or, take, drop, refl, subst, ap₂, le_of_suc-le-suc, not-suc-le-zero, arith}
+use Rattle.std.proofs.Common.{◌≡◌, ℕ, zero, suc, ◌+◌, ◌-◌, ◌<◌, ◌≤◌, true, eqb, leb, List, [], ◌∷◌, length, get_or, take, drop, refl, subst, ◌∙◌, get_or-take, arith}
+use Rattle.std.proofs.lemmas.List.{ext_get_or, length-take-le}
 use Rattle.std.proofs.lemmas.Bool.{leb-true, ltb-true, eqb-true, and_parts}
 use Rattle.fault.specs.Checks.{Passes}
 use Rattle.auction.specs.Limits.{phase_limit, increment_limit}
@@ -8,9 +9,9 @@ use Rattle.ledgers.specs.Rules.{UpTo}
 use Rattle.auction.specs.Runs.{FallsToOne, Ladder}
 
 pub take_copied : (xs row : List ℕ) → ((k : ℕ) → get_or row k 0 ≡ get_or xs k 0) → length xs ≤ length row → take (length xs) row ≡ xs
-take_copied [] row h l = refl
-take_copied (x ∷ xs) [] h l = absurd (not-suc-le-zero l)
-take_copied (x ∷ xs) (y ∷ row) h l = ap₂ {C = List ℕ} (λ a s. a ∷ s) (h 0) (take_copied xs row (λ k. h (suc k)) (le_of_suc-le-suc l))
+take_copied xs row h l =
+    let long : length (take (length xs) row) ≡ length xs = length-take-le (length xs) row l in
+    ext_get_or 0 (take (length xs) row) xs long (λ i w. get_or-take (length xs) row i 0 (omega (arith, long, w)) ∙ h i)
 
 falls_from : (x : ℕ) (xs : List ℕ) → ((k : ℕ) → k < length xs → get_or (x ∷ xs) (suc k) 0 < get_or (x ∷ xs) k 0) → get_or (x ∷ xs) (length xs) 0 ≡ 1 → FallsToOne x xs
 falls_from x [] h e = e

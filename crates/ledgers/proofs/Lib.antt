@@ -1,6 +1,6 @@
 pub mod Entries
-pub mod Kept
-pub mod Vacates
+pub mod Bids
 pub mod Ladders
+pub mod Landings
 pub mod Views
 pub mod Offers

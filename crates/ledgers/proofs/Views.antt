@@ -1,22 +1,25 @@
 -- The writes of a book are the market's events.
-use Rattle.std.proofs.Common.{◌≡◌, ℕ, suc, ◌+◌, ◌-◌, ◌<◌, ◌≤◌, ◌≢◌, List, ◌∷◌, length, get_or, take, drop, set, Some, None, Option, sym, refl, ap, ◌∙◌, subst, arith, length-take, drop-cons, get_or-set_other, get_or-take, get_or-set_same}
+use Rattle.std.proofs.Common.{◌≡◌, ℕ, suc, ◌+◌, ◌-◌, ◌<◌, ◌≤◌, ◌≢◌, List, ◌∷◌, length, get_or, take, drop, set, replicate, true, is_some as option_is_some, Some, None, Option, sym, refl, ap, ◌∙◌, subst, arith, rules, length-take, drop-cons, get_or-set_other, get_or-take, get_or-set_same}
+use Rattle.std.proofs.lemmas.Bool.{eqb-true, ltb-true}
+use Rattle.fault.specs.Checks.{Passes}
 use Rattle.points.specs.Tables.{Table}
 use Rattle.ledgers.specs.declared.books.Bid.{Bid}
 use Rattle.ledgers.specs.declared.books.Book.{Book}
 use Rattle.ledgers.specs.declared.books.Conditions.{Conditions}
 use Rattle.ledgers.specs.declared.books.Counts.{Counts}
+use Rattle.ledgers.specs.declared.ledger.Ledger.{Ledger}
 use Rattle.points.specs.Limits.{size_limit}
 use Rattle.auction.specs.Limits.{allowance_limit}
 use Rattle.ledgers.specs.Rules.{count}
-use Rattle.ledgers.specs.Books.{price_at, seat_at, holder_at, bid_at, increment_of, ladder_of, freed, blank, placed, marked, landed, dropped, advanced, count_outbid, count_recalled}
+use Rattle.ledgers.specs.Books.{price_at, seat_at, holder_at, bid_at, increment_of, ladder_of, dropped, blank}
 use Rattle.auction.specs.Changes.{BidSet}
-use Rattle.auction.specs.Events.{MayBid, Dropped, Highest}
-use Rattle.ledgers.specs.Ledgers.{bid_of, view_of, unshown, Ready, Deliverable, Composes, Marks, Lands, Outbids, Recalls, Advances}
+use Rattle.auction.specs.Events.{Dropped, Highest}
+use Rattle.ledgers.specs.Ledgers.{bid_of, view_of, unshown, Deliverable, Lands, Outbids, Recalls, Advances}
 use Rattle.ledgers.specs.Opening.{Copied}
 use Rattle.auction.specs.Runs.{Ladder, Opened}
-use Rattle.ledgers.proofs.Entries.{same, none_is_some, is_none, count_full}
-use Rattle.ledgers.proofs.Kept.{Kept}
-use Rattle.ledgers.proofs.Vacates.{Freed, freed_seats, on_seat, seat_on, seat_here, seat_other}
+use Rattle.ledgers.specs.Refusals.{advance_checks}
+use Rattle.ledgers.proofs.Entries.{same, none_is_some, not_some, some_of, count_full}
+use Rattle.ledgers.proofs.Landings.{Takes, freed_z, low_j, free_i, on_seat, seat_on, seat_here, seat_other}
 use Rattle.ledgers.proofs.Ladders.{Passed, take_copied}
 
 pub opened_view : (c : Conditions) (xs : List ℕ) → Passed xs → Copied xs c.increments → c.phases ≡ length xs → 1 ≤ c.allowance → c.allowance ≤ allowance_limit → Opened (view_of (blank c) unshown) × (increment_of (blank c) ∷ drop 1 (ladder_of (blank c)) ≡ xs)
@@ -44,137 +47,119 @@ opened_view c xs p s e a l =
       ap (λ (x : ℕ). x ∷ drop 1 (take c.phases c.increments)) first ∙ ap (λ (ys : List ℕ). get_or xs 0 0 ∷ drop 1 ys) whole ∙ p.whole,
     )
 
-ready_may : (b : Book) (i : ℕ) (t : Table) (shown : ℕ → ℕ → ℕ) → Ready b i → t.size ≡ b.conditions.size → MayBid t (view_of b shown) i
-ready_may b i t shown r e = record {
-  low = omega (arith, e, r.low);
-  unmarked = r.unmarked;
-  free = r.free;
-  idle = ap bid_of r.idle;
-  unspent = r.unspent;
+-- run i's bid once it is out no more
+bid_none : (b c : Book) (shown shown' : ℕ → ℕ → ℕ) (i : ℕ) → i < length b.bids → c.bids ≡ set b.bids i None → BidSet (view_of b shown) (view_of c shown') i None
+bid_none b c shown shown' i l e = record {
+  here = ap (λ (xs : List (Option Bid)). bid_of (get_or xs i None)) e ∙ ap bid_of (get_or-set_same b.bids i None None l);
+  other = λ r h. ap (λ (xs : List (Option Bid)). bid_of (get_or xs r None)) e ∙ ap bid_of (get_or-set_other b.bids i r None None h);
 }
 
--- run i's bid once it is set
-bid_set : (b c : Book) (shown shown' : ℕ → ℕ → ℕ) (i : ℕ) (o : Option Bid) → i < length b.bids → c.bids ≡ set b.bids i o → BidSet (view_of b shown) (view_of c shown') i (bid_of o)
-bid_set b c shown shown' i o l e = record {
-  here = ap (λ (xs : List (Option Bid)). bid_of (get_or xs i None)) e ∙ ap bid_of (get_or-set_same b.bids i o None l);
-  other = λ r h. ap (λ (xs : List (Option Bid)). bid_of (get_or xs r None)) e ∙ ap bid_of (get_or-set_other b.bids i r o None h);
-}
-
-pub composes_view : (b : Book) (i : ℕ) (x : Bid) → i < length b.bids → Ready b i → Composes b (placed b i x) i x.seat x.price
-composes_view b i x l r = (
-  refl,
-  λ t shown e q. record {
-    may = ready_may b i t shown r e;
-    bid = q;
-    counts = record { composed = omega arith; accepted = omega arith; outbid = omega arith; recalled = omega arith; allowance = refl };
-    phase = record { phase = refl; increment = refl; later = refl; high = refl };
-    seats = record { price = λ k. refl; seat = λ r. refl; accepted = refl };
-    bids = bid_set b (placed b i x) shown shown i (Some x) l refl;
-    shown = λ r k. refl;
-    mark = refl;
-  },
-)
-
-pub marks_view : (b : Book) (i : ℕ) → Ready b i → Marks b (marked b i) i
-marks_view b i r = (
-  refl,
-  λ t shown e q. record {
-    may = ready_may b i t shown r e;
-    hopeless = q;
-    counts = record { composed = omega arith; accepted = omega arith; outbid = omega arith; recalled = omega arith; allowance = refl };
-    phase = record { phase = refl; increment = refl; later = refl; high = refl };
-    seats = record { price = λ k. refl; seat = λ r. refl; accepted = refl };
-    bids = λ r. refl;
-    shown = λ r k. refl;
-    mark = refl;
-  },
-)
-
-dropped_view : (b : Book) (i : ℕ) (x : Bid) (d : Counts) (t : Table) (shown : ℕ → ℕ → ℕ) → i < length b.bids → i < t.size → bid_at b i ≡ Some x → d.phase_accepted ≡ b.counts.phase_accepted → Dropped t (view_of b shown) (view_of (dropped b i d) shown) i (record { seat = x.seat; price = x.price })
-dropped_view b i x d t shown l n e p = record {
+dropped_view : (l : Ledger) (i : ℕ) (x : Bid) (d : Counts) (t : Table) (shown : ℕ → ℕ → ℕ) → i < t.size → t.size ≡ l.book.conditions.size → bid_at l.book i ≡ Some x → d.phase_accepted ≡ l.book.counts.phase_accepted → Dropped t (view_of l.book shown) (view_of (dropped l.book i d) shown) i (record { seat = x.seat; price = x.price })
+dropped_view l i x d t shown n z e p = record {
   low = n;
   out = ap bid_of e;
-  phase = record { phase = refl; increment = refl; later = refl; high = refl };
+  phase = search rules;
   seats = record { price = λ k. refl; seat = λ r. refl; accepted = p };
-  bids = bid_set b (dropped b i d) shown shown i None l refl;
+  bids = bid_none l.book (dropped l.book i d) shown shown i (omega (arith, n, z, l.sized.1, l.whole.2)) refl;
   shown = λ r k. refl;
   mark = refl;
 }
 
-pub outbids_view : (b : Book) (i : ℕ) (x : Bid) → i < length b.bids → Deliverable b i x → x.price < price_at b x.seat + increment_of b → Outbids b (dropped b i (count_outbid b.counts)) i x.seat (price_at b x.seat)
-outbids_view b i x l y s = (
+pub outbids_view : (l : Ledger) (i : ℕ) (x : Bid) → Deliverable l.book i x → x.price < price_at l.book x.seat + increment_of l.book → Outbids l.book (dropped l.book i (record l.book.counts { outbid = l.book.counts.outbid + 1 })) i x.seat (price_at l.book x.seat)
+outbids_view l i x y s = (
   refl,
   λ t shown e. record {
     unmarked = y.unmarked;
     offer = x.price;
-    dropped = dropped_view b i x (count_outbid b.counts) t shown l (omega (arith, e, y.low)) y.out refl;
+    dropped = dropped_view l i x _ t shown (omega (arith, e, y.low)) e y.out refl;
     price = refl;
     little = s;
-    counts = record { composed = omega arith; accepted = omega arith; outbid = omega arith; recalled = omega arith; allowance = refl };
+    counts = search rules;
   },
 )
 
-pub recalls_view : (b : Book) (i : ℕ) (x : Bid) → i < length b.bids → i < b.conditions.size → bid_at b i ≡ Some x → Recalls b (dropped b i (count_recalled b.counts)) i
-recalls_view b i x l n o = (
-  refl,
-  λ t shown e. record {
-    bid = record { seat = x.seat; price = x.price };
-    dropped = dropped_view b i x (count_recalled b.counts) t shown l (omega (arith, e, n)) o refl;
-    counts = record { composed = omega arith; accepted = omega arith; outbid = omega arith; recalled = omega arith; allowance = refl };
-  },
-)
+pub recalls_view : (l : Ledger) (i : ℕ) → i < l.book.conditions.size → option_is_some (bid_at l.book i) ≡ true → Recalls l.book (dropped l.book i (record l.book.counts { recalled = l.book.counts.recalled + 1 })) i
+recalls_view l i n o =
+    let x = some_of (bid_at l.book i) o in (
+      refl,
+      λ t shown e. record {
+        bid = record { seat = x.0.seat; price = x.0.price };
+        dropped = dropped_view l i x.0 _ t shown (omega (arith, e, n)) e x.1 refl;
+        counts = search rules;
+      },
+    )
 
-module _ (b : Book) (i : ℕ) (x : Bid) (k : Kept b) (l : b.conditions.size ≤ length b.seats) (lh : b.conditions.size ≤ length b.holders) (lb : b.conditions.size ≤ length b.bids) (lp : b.conditions.size ≤ length b.prices.prices) (y : Deliverable b i x) (enough : price_at b x.seat + increment_of b ≤ x.price) where
-  fz : Freed b x.seat (freed b.seats (holder_at b x.seat))
-  fz = freed_seats b x.seat k l (holder_at b x.seat) refl
+-- the book once run i's bid x has landed on seat j, with z the other runs' seats and n runs seated
+abbrev pub landed : Book → ℕ → Bid → ℕ → List (Option ℕ) → ℕ → Book
+landed b i x j z n = record b {
+  prices = record { prices = set b.prices.prices j x.price };
+  seats = set z i (Some x.seat);
+  holders = set b.holders j (Some i);
+  seated = n;
+  bids = set b.bids i None;
+  counts = record b.counts { accepted = b.counts.accepted + 1; phase_accepted = b.counts.phase_accepted + 1 };
+}
 
+module _ {l : Ledger} {i : ℕ} {x : Bid} {j : ℕ} {z : List (Option ℕ)} (f : Takes l i x j z) where
   -- run i holds no seat while its bid is out
-  apart : (r : ℕ) → seat_at b r ≡ Some x.seat → r ≢ i
-  apart r h q = none_is_some x.seat (sym (is_none (seat_at b i) (k.waiting i x y.out)) ∙ ap (seat_at b) (sym q) ∙ h)
+  apart : (r : ℕ) → seat_at l.book r ≡ Some j → r ≢ i
+  apart r h q = none_is_some j (sym (free_i f) ∙ ap (seat_at l.book) (sym q) ∙ h)
 
-  pub lands_view : Lands b (landed b i x) i x.seat x.price (holder_at b x.seat)
-  lands_view = (
+  pub lands_view : (n : ℕ) (d : Option ℕ) → d ≡ holder_at l.book j → price_at l.book x.seat + increment_of l.book ≤ x.price → Lands l.book (landed l.book i x j z n) i j x.price d
+  lands_view n d q enough = (
     refl,
     λ t shown shown' e told. record {
-      low = omega (arith, e, y.low);
-      unmarked = y.unmarked;
-      out = ap bid_of y.out;
-      enough = enough;
-      counts = record { composed = omega arith; accepted = omega arith; outbid = omega arith; recalled = omega arith; allowance = refl };
-      phase = record { phase = refl; increment = refl; later = refl; high = refl };
+      low = omega (arith, e, f.bid.low);
+      unmarked = f.bid.unmarked;
+      out = subst (λ (k : ℕ). bid_of (bid_at l.book i) ≡ Some (record { seat = k; price = x.price })) (sym f.seat) (ap bid_of f.bid.out);
+      enough = subst (λ (k : ℕ). price_at l.book k + increment_of l.book ≤ x.price) (sym f.seat) enough;
+      counts = search rules;
+      phase = search rules;
       accepted = refl;
-      raised = get_or-set_same b.prices.prices x.seat x.price 0 (omega (arith, lp, (k.fit i x y.out).0));
-      prices = λ a h. get_or-set_other b.prices.prices x.seat a x.price 0 h;
+      raised = get_or-set_same l.book.prices.prices j x.price 0 (omega (arith, low_j f, l.sized.1, l.long.0));
+      prices = λ a h. get_or-set_other l.book.prices.prices j a x.price 0 h;
       displaced = record {
-        holds = λ r h. let s : seat_at b r ≡ Some x.seat = on_seat b k x.seat r h in (apart r s, s);
-        named = λ r h s. seat_on b k r x.seat s;
+        holds = λ r h. let s : seat_at l.book r ≡ Some j = on_seat l j r (sym q ∙ h) in (apart r s, s);
+        named = λ r h s. q ∙ seat_on l r j s;
       };
-      seated = seat_here b i x k l lh lb y.low y.out;
-      freed = λ r h. let s : seat_at b r ≡ Some x.seat = on_seat b k x.seat r h in seat_other b i x k l lh lb y.low y.out r (apart r s) ∙ fz.displaced r s;
-      kept = λ r h n. seat_other b i x k l lh lb y.low y.out r h ∙ fz.kept r (λ s. n (seat_on b k r x.seat s));
-      bids = bid_set b (landed b i x) shown shown' i None (omega (arith, y.low, lb)) refl;
+      seated = seat_here f;
+      freed = λ r h. let s : seat_at l.book r ≡ Some j = on_seat l j r (sym q ∙ h) in seat_other f r (apart r s) ∙ (freed_z f).displaced r s;
+      kept = λ r h n. seat_other f r h ∙ (freed_z f).kept r (λ s. n (q ∙ seat_on l r j s));
+      bids = bid_none l.book (landed l.book i x j z n) shown shown' i (omega (arith, f.bid.low, l.sized.1, l.whole.2)) refl;
       shown = told;
       mark = refl;
     },
   )
 
-pub advances_view : (b : Book) (h : ℕ) → Kept b → b.conditions.phases ≤ length b.conditions.increments → b.mark ≡ None → b.seated ≡ b.conditions.size → b.phase < b.conditions.phases → Highest b.conditions.size (price_at b) h → Advances b (advanced b h)
-advances_view b h k long m s l top =
+-- the book once the next phase has begun, and h is the highest price
+abbrev pub advanced : Book → ℕ → Book
+advanced b h = record b {
+  phase = b.phase + 1;
+  high = h;
+  seats = replicate size_limit None;
+  holders = replicate size_limit None;
+  seated = 0;
+  counts = record b.counts { phase_accepted = 0 };
+}
+
+pub advances_view : (l : Ledger) (h : ℕ) → Passes (advance_checks l.book) → Highest l.book.conditions.size (price_at l.book) h → Advances l.book (advanced l.book h)
+advances_view l h p top =
+    let b : Book = l.book in
+    let low : b.phase < b.conditions.phases = ltb-true _ _ p.1.1 in
     let back : b.phase ≡ b.phase + 1 - 1 = omega arith in
-    let next : suc b.phase ≡ b.phase + 1 = omega arith in
-    let all : count b.seats ≡ b.conditions.size = sym k.filled ∙ s in (
+    let next : suc b.phase ≡ b.phase + 1 = omega arith in (
       refl,
       λ t shown e. record {
-        unmarked = m;
-        seated = λ i n. count_full b.seats b.conditions.size (λ a x q. (k.places a x q).0) all i (omega (arith, e, n));
+        unmarked = not_some b.mark p.0;
+        seated = λ i n. count_full b.seats b.conditions.size (λ a x q. (l.places a x q).0) (eqb-true (count b.seats) b.conditions.size p.1.0) i (omega (arith, e, n));
         ladder =
-            drop-cons (ladder_of b) b.phase 0 (subst (λ (n : ℕ). b.phase < n) (sym (length-take b.conditions.phases b.conditions.increments)) (omega (arith, long, l)))
-            ∙ ap (λ (v : ℕ). v ∷ drop (suc b.phase) (ladder_of b)) (get_or-take b.conditions.phases b.conditions.increments b.phase 0 l)
+            drop-cons (ladder_of b) b.phase 0 (subst (λ (n : ℕ). b.phase < n) (sym (length-take b.conditions.phases b.conditions.increments)) (omega (arith, l.phased.2, l.long.1, low)))
+            ∙ ap (λ (v : ℕ). v ∷ drop (suc b.phase) (ladder_of b)) (get_or-take b.conditions.phases b.conditions.increments b.phase 0 low)
             ∙ ap (λ (n : ℕ). get_or b.conditions.increments n 0 ∷ drop (suc b.phase) (ladder_of b)) back
             ∙ ap (λ (n : ℕ). get_or b.conditions.increments (b.phase + 1 - 1) 0 ∷ drop n (ladder_of b)) next;
         phase = refl;
         high = subst (λ (n : ℕ). Highest n (price_at b) h) (sym e) top;
-        counts = record { composed = omega arith; accepted = omega arith; outbid = omega arith; recalled = omega arith; allowance = refl };
+        counts = search rules;
         accepted = refl;
         price = λ a. refl;
         seat = λ i. same {A = Option ℕ} size_limit None i;

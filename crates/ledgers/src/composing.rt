@@ -30,7 +30,7 @@ impl Ledger {
         self.check_composing(source.size(), run)?;
         match self.seek_bid(source, board, run) {
             Some(offer) => {
-                self.place(run, offer.seat, offer.price);
+                self.place(run, offer);
                 Ok(offer)
             }
             None => {
@@ -72,6 +72,6 @@ impl Ledger {
         ensures { HasTerms (size_of self.now) top (increment_of self.now.book) self.now.book.high result }
     {
         let size = self.book.conditions.size as u16;
-        Terms::new(size, top, self.book.increment(), self.book.high).unwrap()
+        Terms::new(size, top, self.increment(), self.book.high).unwrap()
     }
 }

@@ -1,80 +1,44 @@
 // Delivering and recalling bids, and the next phase: with their refusals.
-ghost use Rattle.std.specs.Prelude.{◌≡◌, ℕ, ◌+◌, ◌*◌, ◌<◌, ◌≤◌, ◌≢◌, Some, None, MatchResult, nat_le};
+ghost use Rattle.std.specs.Prelude.{◌≡◌, ◌+◌, ◌<◌, MatchResult, nat_le};
 ghost use Rattle.fault.specs.Checks.{Passes, Refuses};
-ghost use Rattle.ledgers.specs.Rules.{phase_rise};
-ghost use Rattle.ledgers.specs.Books.{price_at, bid_at, increment_of};
-ghost use Rattle.auction.specs.Events.{Highest};
+ghost use Rattle.ledgers.specs.Books.{price_at, increment_of};
 ghost use Rattle.ledgers.specs.Ledgers.{Deliverable, Recalls, Advances};
 ghost use Rattle.ledgers.specs.Deliveries.{Delivers};
 ghost use Rattle.ledgers.specs.Refusals.{deliver_checks, recall_checks, advance_checks};
 
-use crate::books::{Bid, Book};
+use crate::books::{Bid, Counts};
 use crate::ledger::Ledger;
 use crate::operations::Landing;
 use fault::faults::Fault;
 
-// How a delivered bid comes out.
-#[derive(Clone, Copy)]
+// How a delivered bid comes out. No `Result`: both are answers of a delivery that went through.
+#[derive(Clone, Copy, PartialEq, Eq, Debug)]
 pub enum Delivery {
     Accepted(Landing),
-    // the seat and its price
-    Outbid(usize, u64),
-}
-
-// Whether an offer is at least an increment above a price.
-pub(crate) fn is_enough(offer: u64, price: u64, increment: u64) -> bool
-    requires low { price ≤ 10000000000000 }
-    requires small { increment ≤ 1000000000 }
-    ensures { result ≡ nat_le (price + increment) offer }
-{
-    offer >= price + increment
-}
-
-// The higher of two prices.
-pub(crate) fn higher(a: u64, b: u64) -> u64
-    ensures over { (a ≤ result) × (b ≤ result) }
-    ensures one { result ≢ a → result ≡ b }
-{
-    if a < b { b } else { a }
-}
-
-impl Book {
-    // The highest price.
-    pub(crate) fn highest(&self) -> u64
-        requires some { 1 ≤ self.now.conditions.size }
-        requires few { self.now.conditions.size ≤ 256 }
-        ensures { Highest self.now.conditions.size (price_at self.now) result }
-    {
-        let mut high = self.price_at(0);
-        for seat in 1..self.conditions.size {
-            high = higher(high, self.price_at(seat));
-        }
-        high
-    }
+    // at this seat and its price
+    Outbid { seat: usize, price: u64 },
 }
 
 impl Ledger {
     // Whether a bid reaches its seat's price and the increment.
-    pub(crate) fn reaches(&self, run: usize, bid: Bid) -> bool
-        requires { Deliverable self.now.book run bid }
+    pub(crate) fn reaches(&self, bid: Bid) -> bool
         ensures { result ≡ nat_le (price_at self.now.book bid.seat + increment_of self.now.book) bid.price }
     {
-        let price = self.book.price_at(usize::from(bid.seat));
-        is_enough(bid.price, price, self.book.increment())
+        bid.price >= self.book.price_at(usize::from(bid.seat)) + self.increment()
     }
 
-    // A bid that can be delivered lands, or is outbid and dropped.
-    pub(crate) fn settle_bid(&mut self, run: usize, bid: Bid) -> Delivery
-        requires { Deliverable self.old.book run bid }
+    // A run's bid is outbid at its seat's price, and dropped.
+    pub(crate) fn outbid(&mut self, run: usize, bid: Bid) -> Delivery
+        requires bid { Deliverable self.old.book run bid }
+        requires little { bid.price < price_at self.old.book bid.seat + increment_of self.old.book }
         ensures { Delivers self.old.book self.new.book run result }
     {
-        if self.reaches(run, bid) {
-            return Delivery::Accepted(self.land(run, bid));
-        }
         let seat = usize::from(bid.seat);
         let price = self.book.price_at(seat);
-        self.drop_outbid(run, bid);
-        Delivery::Outbid(seat, price)
+        let counts = self.book.counts;
+        let outbid = counts.outbid + 1;
+        self.drop_bid(run, Counts { outbid, ..counts });
+        Delivery::Outbid { seat, price }
     }
 
     // Delivers a run's bid, which is used up.
@@ -84,16 +48,10 @@ impl Ledger {
             (λ f. Refuses (deliver_checks self.old.book run) f × (self.new.book ≡ self.old.book)) }
     {
         let bid = self.check_deliver(run)?;
-        Ok(self.settle_bid(run, bid))
-    }
-
-    // A run's bid is dropped, since it is recalled.
-    pub(crate) fn drop_recalled(&mut self, run: usize, bid: Bid)
-        requires low { run < self.old.book.conditions.size }
-        requires out { bid_at self.old.book run ≡ Some bid }
-        ensures { Recalls self.old.book self.new.book run }
-    {
-        self.book.drop_recalled(run);
+        if self.reaches(bid) {
+            return Ok(Delivery::Accepted(self.land(run, bid)));
+        }
+        Ok(self.outbid(run, bid))
     }
 
     // Drops a run's bid.
@@ -102,18 +60,11 @@ impl Ledger {
             (λ _. Passes (recall_checks self.old.book run) × Recalls self.old.book self.new.book run)
             (λ f. Refuses (recall_checks self.old.book run) f × (self.new.book ≡ self.old.book)) }
     {
-        let bid = self.check_recall(run)?;
-        self.drop_recalled(run, bid);
+        self.check_recall(run)?;
+        let counts = self.book.counts;
+        let recalled = counts.recalled + 1;
+        self.drop_bid(run, Counts { recalled, ..counts });
         Ok(())
-    }
-
-    // The next phase begins.
-    pub(crate) fn begin_phase(&mut self)
-        requires { Passes (advance_checks self.old.book) }
-        ensures { Advances self.old.book self.new.book }
-    {
-        let high = self.book.highest();
-        self.book.advance(high);
     }
 
     // Begins the next phase, when every run holds a seat.

@@ -1,12 +1,9 @@
 // The start of an auction.
-ghost use Rattle.std.specs.Prelude.{◌≡◌, ◌+◌, ◌-◌, ◌<◌, ◌≤◌, length, MatchResult, nat_lt, slice_index};
+ghost use Rattle.std.specs.Prelude.{◌≡◌, ◌-◌, ◌≤◌, length, MatchResult};
 ghost use Rattle.fault.specs.Checks.{Passes, Refuses};
-ghost use Rattle.points.specs.Limits.{size_limit};
-ghost use Rattle.auction.specs.Limits.{increment_limit, allowance_limit};
-ghost use Rattle.ledgers.specs.Books.{blank};
+ghost use Rattle.auction.specs.Limits.{phase_limit};
 ghost use Rattle.ledgers.specs.Ledgers.{Starts};
 ghost use Rattle.ledgers.specs.Opening.{Copied};
-ghost use Rattle.ledgers.specs.Rules.{UpTo};
 ghost use Rattle.ledgers.specs.Refusals.{start_fault, fall_checks, ladder_checks, start_checks};
 
 use crate::books::{Book, Conditions};
@@ -24,41 +21,23 @@ fn start_fault(cause: Cause) -> Fault
     Fault::in_phase(Layer::Exchange, cause, 0, None, None)
 }
 
-// An increment, or 0 past the last.
-fn increment_at(ladder: &[u64], at: usize) -> u64
-    ensures { result ≡ slice_index ladder.now at }
-{
-    if at < ladder.len() { ladder[at] } else { 0 }
-}
-
-// Whether an increment falls to the next.
-fn falls(ladder: &[u64], at: usize) -> bool
-    requires { at < length ladder.now }
-    ensures { result ≡ nat_lt (slice_index ladder.now (at + 1)) (slice_index ladder.now at) }
-{
-    increment_at(ladder, at + 1) < increment_at(ladder, at)
-}
-
 // Every increment falls to the next.
 fn check_falls(ladder: &[u64]) -> Result<(), Fault>
     ensures { MatchResult result
         (λ _. Passes (fall_checks ladder.now (length ladder.now - 1)))
         (λ f. Refuses (fall_checks ladder.now (length ladder.now - 1)) f) }
 {
-    for at in 0..ladder.len().saturating_sub(1) {
-        start_fault(Cause::Ladder).unless(falls(ladder, at))?;
-    }
-    Ok(())
+    start_fault(Cause::Ladder).unless(ladder.is_sorted_by(|one, next| one > next))
 }
 
 // The increments make a ladder.
 fn check_ladder(ladder: &[u64]) -> Result<(), Fault>
     ensures { MatchResult result (λ _. Passes (ladder_checks ladder.now)) (λ f. Refuses (ladder_checks ladder.now) f) }
 {
-    let phases = ladder.len();
-    let last = increment_at(ladder, phases.saturating_sub(1));
-    start_fault(Cause::Ladder).unless(1 <= phases && phases <= PHASE_LIMIT)?;
-    start_fault(Cause::Ladder).unless(increment_at(ladder, 0) <= INCREMENT_LIMIT)?;
+    let first = ladder.first().copied().unwrap_or(0);
+    let last = ladder.last().copied().unwrap_or(0);
+    start_fault(Cause::Ladder).unless((1..=PHASE_LIMIT).contains(&ladder.len()))?;
+    start_fault(Cause::Ladder).unless(first <= INCREMENT_LIMIT)?;
     check_falls(ladder)?;
     start_fault(Cause::Ladder).unless(last == 1)
 }
@@ -67,34 +46,19 @@ fn check_ladder(ladder: &[u64]) -> Result<(), Fault>
 fn check_start(size: usize, ladder: &[u64], allowance: u64) -> Result<(), Fault>
     ensures { MatchResult result (λ _. Passes (start_checks size ladder.now allowance)) (λ f. Refuses (start_checks size ladder.now allowance) f) }
 {
-    start_fault(Cause::Size).unless(1 <= size && size <= SIZE_LIMIT)?;
+    start_fault(Cause::Size).unless((1..=SIZE_LIMIT).contains(&size))?;
     check_ladder(ladder)?;
-    start_fault(Cause::Allowance).unless(1 <= allowance && allowance <= ALLOWANCE_LIMIT)
+    start_fault(Cause::Allowance).unless((1..=ALLOWANCE_LIMIT).contains(&allowance))
 }
 
 // The increments, and zeros behind them.
 fn padded(ladder: &[u64]) -> [u64; PHASE_LIMIT]
-    requires { length ladder.now ≤ 16 }
+    requires { length ladder.now ≤ phase_limit }
     ensures { Copied ladder.now result }
 {
     let mut increments = [0; PHASE_LIMIT];
-    for at in 0..ladder.len() {
-        increments[at] = ladder[at];
-    }
+    increments[..ladder.len()].copy_from_slice(ladder);
     increments
-}
-
-// The ledger of an auction that starts under these conditions.
-fn begin(conditions: Conditions) -> Ledger
-    requires sized { (1 ≤ conditions.size) × (conditions.size ≤ size_limit) }
-    requires phased { (1 ≤ conditions.phases) × (conditions.phases ≤ 16) }
-    requires small { UpTo increment_limit conditions.increments }
-    requires allowance { conditions.allowance ≤ allowance_limit }
-    requires long { length conditions.increments ≡ 16 }
-    ensures { result.book ≡ blank conditions }
-{
-    let book = Book::new(conditions);
-    Ledger { book }
 }
 
 impl Ledger {
@@ -107,11 +71,12 @@ impl Ledger {
         check_start(size, ladder, allowance)?;
         let increments = padded(ladder);
         let phases = ladder.len();
-        Ok(begin(Conditions {
+        let book = Book::new(Conditions {
             size,
             increments,
             phases,
             allowance,
-        }))
+        });
+        Ok(Ledger { book })
     }
 }

@@ -1,14 +1,19 @@
-// The events of an auction in its ledger: bids placed, delivered and recalled, the mark, and the next phase.
-ghost use Rattle.std.specs.Prelude.{◌≡◌, ℕ, ◌+◌, ◌*◌, ◌<◌, ◌≤◌, Some, None};
+// The events of an auction in its ledger: bids placed, landed and dropped, the mark, and the next phase.
+ghost use Rattle.std.specs.Prelude.{◌≡◌, ◌+◌, ◌*◌, ◌<◌, ◌≤◌, IsSome};
+ghost use Rattle.fault.specs.Checks.{Passes};
+ghost use Rattle.auction.specs.Events.{Highest};
 ghost use Rattle.ledgers.specs.Rules.{phase_rise};
-ghost use Rattle.ledgers.specs.Books.{price_at, increment_of};
-ghost use Rattle.ledgers.specs.Ledgers.{size_of, Ready, Deliverable, Composes, Marks, Lands, Outbids, Recalls, Advances};
+ghost use Rattle.ledgers.specs.Books.{price_at, bid_at, increment_of, Ends, dropped};
+ghost use Rattle.ledgers.specs.Ledgers.{size_of, Ready, Deliverable, Composes, Marks, Lands, Advances};
+ghost use Rattle.ledgers.specs.Refusals.{advance_checks};
 
-use crate::books::Bid;
+use crate::books::{Bid, Counts, free, seated_after, wide};
 use crate::ledger::Ledger;
+use bidding::sought::Offer;
+use points::limits::SIZE_LIMIT;
 
 // How an accepted bid came out.
-#[derive(Clone, Copy)]
+#[derive(Clone, Copy, PartialEq, Eq, Debug)]
 pub struct Landing {
     pub seat: usize,
     pub price: u64,
@@ -16,33 +21,18 @@ pub struct Landing {
     pub displaced: Option<usize>,
 }
 
-// A run or a seat in two bytes.
-pub(crate) fn narrow(number: usize) -> u16
-    requires { number < 256 }
-    ensures { result ≡ number }
-{
-    number as u16
-}
-
-// A run or a seat, if there is one, as a number of any size.
-pub(crate) fn wide(number: Option<u16>) -> Option<usize>
-    ensures { result ≡ number }
-{
-    match number {
-        Some(number) => Some(usize::from(number)),
-        None => None,
-    }
-}
-
 impl Ledger {
     // A run's bid is out.
-    pub(crate) fn place(&mut self, run: usize, seat: usize, price: u64)
+    pub(crate) fn place(&mut self, run: usize, offer: Offer)
         requires ready { Ready self.old.book run }
-        requires fit { (seat < size_of self.old) × (price ≤ self.old.book.phase * phase_rise) }
-        ensures { Composes self.old.book self.new.book run seat price }
+        requires fit { (offer.seat < size_of self.old) × (offer.price ≤ self.old.book.phase * phase_rise) }
+        ensures { Composes self.old.book self.new.book run offer.seat offer.price }
     {
-        let seat = narrow(seat);
-        self.book.place(run, Bid { seat, price });
+        self.book.bids[run] = Some(Bid {
+            seat: offer.seat as u16,
+            price: offer.price,
+        });
+        self.book.counts.composed += 1;
     }
 
     // A run is found to have no part in a full plan.
@@ -50,31 +40,64 @@ impl Ledger {
         requires { Ready self.old.book run }
         ensures { Marks self.old.book self.new.book run }
     {
-        let run = narrow(run);
-        self.book.mark(run);
+        self.book.mark = Some(run as u16);
     }
 
-    // A run's bid is accepted.
+    // A run's bid is accepted. That it can be delivered is a fact about the ledger, which no type of the bid can hold.
     pub(crate) fn land(&mut self, run: usize, bid: Bid) -> Landing
         requires bid { Deliverable self.old.book run bid }
         requires enough { price_at self.old.book bid.seat + increment_of self.old.book ≤ bid.price }
         ensures { Lands self.old.book self.new.book run result.seat result.price result.displaced }
     {
-        let holder = narrow(run);
-        let displaced = wide(self.book.land(holder, bid));
+        let seat = usize::from(bid.seat);
+        let displaced = self.book.holders[seat];
+        free(&mut self.book.seats, displaced);
+        self.book.seats[run] = Some(bid.seat);
+        self.book.seated = seated_after(self.book.seated, displaced);
+        self.book.holders[seat] = Some(run as u16);
+        self.book.prices.prices[seat] = bid.price;
+        self.book.bids[run] = None;
+        self.book.counts.accepted += 1;
+        self.book.counts.phase_accepted += 1;
         Landing {
-            seat: usize::from(bid.seat),
+            seat,
             price: bid.price,
-            displaced,
+            displaced: wide(displaced),
         }
     }
 
-    // A run's bid is dropped, since it is outbid.
-    pub(crate) fn drop_outbid(&mut self, run: usize, bid: Bid)
-        requires bid { Deliverable self.old.book run bid }
-        requires little { bid.price < price_at self.old.book bid.seat + increment_of self.old.book }
-        ensures { Outbids self.old.book self.new.book run bid.seat (price_at self.old.book bid.seat) }
+    // A run's bid is out no more, and these are the counts then.
+    pub(crate) fn drop_bid(&mut self, run: usize, counts: Counts)
+        requires out { IsSome (bid_at self.old.book run) }
+        requires ends { Ends self.old.book.counts counts }
+        ensures { self.new.book ≡ dropped self.old.book run counts }
     {
-        self.book.drop_outbid(run);
+        self.book.bids[run] = None;
+        self.book.counts = counts;
+    }
+
+    // The highest price.
+    pub(crate) fn highest(&self) -> u64
+        ensures { Highest (size_of self.now) (price_at self.now.book) result }
+    {
+        self.book.prices.prices[..self.book.conditions.size]
+            .iter()
+            .copied()
+            .max()
+            .unwrap_or(0)
+    }
+
+    // The next phase begins.
+    pub(crate) fn begin_phase(&mut self)
+        requires { Passes (advance_checks self.old.book) }
+        ensures { Advances self.old.book self.new.book }
+    {
+        let high = self.highest();
+        self.book.phase += 1;
+        self.book.high = high;
+        self.book.seats = [None; SIZE_LIMIT];
+        self.book.holders = [None; SIZE_LIMIT];
+        self.book.seated = 0;
+        self.book.counts.phase_accepted = 0;
     }
 }

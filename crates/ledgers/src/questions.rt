@@ -1,13 +1,13 @@
 // Questions to the ledger of an auction.
 ghost use Rattle.std.specs.Prelude.{◌≡◌, ◌≤◌, MatchResult};
 ghost use Rattle.fault.specs.Checks.{Passes, Refuses};
+ghost use Rattle.points.specs.Limits.{size_limit};
 ghost use Rattle.ledgers.specs.Books.{price_at, seat_at, holder_at, increment_of};
 ghost use Rattle.ledgers.specs.Ledgers.{LowestFree};
 ghost use Rattle.ledgers.specs.Refusals.{run_checks, seat_checks};
 
 use crate::books::Counts;
 use crate::ledger::Ledger;
-use crate::operations::wide;
 use fault::faults::Fault;
 
 impl Ledger {
@@ -24,21 +24,21 @@ impl Ledger {
         ensures { MatchResult result (λ o. Passes (seat_checks self.now.book seat) × (o ≡ holder_at self.now.book seat)) (λ f. Refuses (seat_checks self.now.book seat) f) }
     {
         self.check_seat(seat)?;
-        Ok(wide(self.book.holder_at(seat)))
+        Ok(self.book.holder_at(seat))
     }
 
-    // The seat that a run holds.
+    // The seat that a run holds: read in another list than `holder`, behind another test, so a function of its own.
     pub fn seat_of(&self, run: usize) -> Result<Option<usize>, Fault>
         ensures { MatchResult result (λ o. Passes (run_checks self.now.book run) × (o ≡ seat_at self.now.book run)) (λ f. Refuses (run_checks self.now.book run) f) }
     {
         self.check_run(run)?;
-        Ok(wide(self.book.seat_at(run)))
+        Ok(self.book.seat_at(run))
     }
 
     // How many runs there are, and as many seats.
     pub fn size(&self) -> usize
         ensures is { result ≡ self.now.book.conditions.size }
-        ensures few { (1 ≤ result) × (result ≤ 256) }
+        ensures few { (1 ≤ result) × (result ≤ size_limit) }
     {
         self.book.conditions.size
     }
@@ -54,7 +54,7 @@ impl Ledger {
     pub fn increment(&self) -> u64
         ensures { result ≡ increment_of self.now.book }
     {
-        self.book.increment()
+        self.book.conditions.increments[self.book.phase - 1]
     }
 
     // The highest price when the phase began.
@@ -82,11 +82,8 @@ impl Ledger {
     pub fn lowest_free(&self) -> Option<usize>
         ensures { LowestFree self.now.book result }
     {
-        for run in 0..self.size() {
-            if !self.is_seated(run) {
-                return Some(run);
-            }
-        }
-        None
+        self.book.seats[..self.size()]
+            .iter()
+            .position(Option::is_none)
     }
 }

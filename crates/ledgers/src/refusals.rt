@@ -1,19 +1,17 @@
 // The tests of each call of a started auction, in their order.
-ghost use Rattle.std.specs.Prelude.{◌≡◌, is_some, Some, None, MatchResult, OnOk, ◌==◌};
+ghost use Rattle.std.specs.Prelude.{◌≡◌, Some, None, MatchResult, OnOk, ◌==◌};
 ghost use Rattle.fault.specs.Checks.{Passes, Refuses};
 ghost use Rattle.fault.specs.declared.causes.Cause.TheVariants.{NoBidOut};
-ghost use Rattle.ledgers.specs.Books.{seat_at, bid_at};
+ghost use Rattle.ledgers.specs.Books.{bid_at};
 ghost use Rattle.ledgers.specs.Rules.{count};
 ghost use Rattle.ledgers.specs.Ledgers.{Ready};
 ghost use Rattle.ledgers.specs.Refusals.{phase_fault, run_fault, run_checks, seat_checks, mark_checks, compose_checks, deliver_checks, recall_checks, advance_checks};
 
-use crate::books::Bid;
+use crate::books::{Bid, wide};
 use crate::ledger::Ledger;
-use crate::operations::wide;
 use fault::causes::Cause;
 use fault::faults::Fault;
 use fault::layers::Layer;
-use points::limits::SIZE_LIMIT;
 
 impl Ledger {
     // A fault in the current phase.
@@ -55,28 +53,6 @@ impl Ledger {
             .unless(mark.is_none())
     }
 
-    // Whether a run holds a seat.
-    pub(crate) fn is_seated(&self, run: usize) -> bool
-        ensures { result ≡ is_some (seat_at self.now.book run) }
-    {
-        if run < SIZE_LIMIT {
-            self.book.seat_at(run).is_some()
-        } else {
-            false
-        }
-    }
-
-    // The bid of a run that is out.
-    pub(crate) fn bid_of(&self, run: usize) -> Option<Bid>
-        ensures { result ≡ bid_at self.now.book run }
-    {
-        if run < SIZE_LIMIT {
-            self.book.bid_at(run)
-        } else {
-            None
-        }
-    }
-
     // Whether every run holds a seat.
     pub(crate) fn is_complete(&self) -> bool
         ensures { result ≡ (count self.now.book.seats == self.now.book.conditions.size) }
@@ -84,28 +60,13 @@ impl Ledger {
         self.book.seated == self.book.conditions.size
     }
 
-    // A run may compose a bid.
-    pub(crate) fn test_compose(&self, run: usize) -> Result<(), Fault>
-        ensures { MatchResult result (λ _. Passes (compose_checks self.now.book run)) (λ f. Refuses (compose_checks self.now.book run) f) }
-    {
-        self.check_run(run)?;
-        self.check_mark()?;
-        self.run_fault(Cause::HoldsSeat, run)
-            .unless(!self.is_seated(run))?;
-        self.run_fault(Cause::BidOut, run)
-            .unless(self.bid_of(run).is_none())?;
-        self.run_fault(Cause::AllowanceSpent, run)
-            .unless(self.book.counts.composed < self.book.conditions.allowance)
-    }
-
     // The bid of a run that is out, or the fault where there is none.
     pub(crate) fn bid_out(&self, run: usize) -> Result<Bid, Fault>
         ensures { MatchResult result (λ x. bid_at self.now.book run ≡ Some x) (λ f. (bid_at self.now.book run ≡ None) × (f ≡ run_fault self.now.book NoBidOut run)) }
     {
-        match self.bid_of(run) {
-            Some(bid) => Ok(bid),
-            None => Err(self.run_fault(Cause::NoBidOut, run)),
-        }
+        self.book
+            .bid_at(run)
+            .ok_or(self.run_fault(Cause::NoBidOut, run))
     }
 
     // The next phase may begin.
@@ -141,6 +102,13 @@ impl Ledger {
         ensures is { MatchResult result (λ _. Passes (compose_checks self.now.book run)) (λ f. Refuses (compose_checks self.now.book run) f) }
         ensures ready { OnOk result (Ready self.now.book run) }
     {
-        self.test_compose(run)
+        self.check_run(run)?;
+        self.check_mark()?;
+        self.run_fault(Cause::HoldsSeat, run)
+            .unless(self.book.seat_at(run).is_none())?;
+        self.run_fault(Cause::BidOut, run)
+            .unless(self.book.bid_at(run).is_none())?;
+        self.run_fault(Cause::AllowanceSpent, run)
+            .unless(self.book.counts.composed < self.book.conditions.allowance)
     }
 }
