@@ -2,18 +2,25 @@
 // Runs the vectors of sheets and certificates, and says how many come out as they are written down.
 mod texts;
 
-use crate::texts::{bytes_in, prices_in, seats_in};
+use crate::texts::{bytes_in, numbers_in};
 use anyhow::anyhow;
 use commands::calls::{check_plan, show_sheet};
+use fault::faults::Fault;
 use std::alloc::Global;
+use std::fmt::Display;
 use std::fs;
 
-// What `show` answers on a sheet in hexadecimal.
-fn show(heap: Global, input: &str) -> anyhow::Result<String> {
-    match show_sheet(heap, bytes_in(heap, input)?) {
+// The text of a line, or of the refusal in its place.
+fn text_of<L: Display + Drop>(heap: Global, answer: Result<L, Fault>) -> anyhow::Result<String> {
+    match answer {
         Ok(line) => Ok(line.to_string(heap)?),
         Err(fault) => Ok(fault.to_string(heap)?),
     }
+}
+
+// What `show` answers on a sheet in hexadecimal.
+fn show(heap: Global, input: &str) -> anyhow::Result<String> {
+    text_of(heap, show_sheet(heap, bytes_in(heap, input)?))
 }
 
 // What `check` answers on a sheet in hexadecimal, seats and prices.
@@ -24,33 +31,29 @@ fn check(heap: Global, input: &str) -> anyhow::Result<String> {
     let Some((seats, prices)) = rest.split_once(' ') else {
         return Err(anyhow!("a line without prices"));
     };
-    let seats = seats_in(heap, seats)?;
-    let prices = prices_in(heap, prices)?;
-    match check_plan(heap, bytes_in(heap, sheet)?, &seats, &prices) {
-        Ok(line) => Ok(line.to_string(heap)?),
-        Err(fault) => Ok(fault.to_string(heap)?),
-    }
+    let seats = numbers_in(heap, seats)?;
+    let prices = numbers_in(heap, prices)?;
+    text_of(
+        heap,
+        check_plan(heap, bytes_in(heap, sheet)?, &seats, &prices),
+    )
 }
 
-// One line of a file: an input, what it should come to, and whether it is a certificate's.
-fn agrees(heap: Global, input: &str, answer: &str, certificate: bool) -> anyhow::Result<bool> {
-    let came = if certificate {
-        check(heap, input)?
-    } else {
-        show(heap, input)?
-    };
-    Ok(came.as_str() == answer)
-}
-
-// Every line of a file; prints those that disagree, and how many agree.
-fn run(rt: &HostRuntime, path: &str, certificates: bool) -> anyhow::Result<()> {
+// Every line of a file, an input and what it should come to by a command; prints those that disagree, and how many agree.
+fn run<F: Fn(Global, &str) -> anyhow::Result<String>>(
+    rt: &HostRuntime,
+    path: &str,
+    command: F,
+) -> anyhow::Result<()>
+    requires { F.IsAlwaysCallable command }
+{
     let text = fs::read_to_string(rt, path)?;
     let mut good: u64 = 0;
     let mut all: u64 = 0;
     for line in text.as_str().lines() {
         if let Some((input, answer)) = line.split_once(" => ") {
             all = all.saturating_add(1);
-            if agrees(rt.alloc(), input, answer, certificates)? {
+            if command(rt.alloc(), input)?.as_str() == answer {
                 good = good.saturating_add(1);
             } else {
                 println!(rt; "{path} disagrees: {line}")?;
@@ -62,6 +65,6 @@ fn run(rt: &HostRuntime, path: &str, certificates: bool) -> anyhow::Result<()> {
 }
 
 fn main(rt: HostRuntime) -> anyhow::Result<()> {
-    run(&rt, "sheets.txt", false)?;
-    run(&rt, "certificates.txt", true)
+    run(&rt, "sheets.txt", show)?;
+    run(&rt, "certificates.txt", check)
 }
