@@ -1,17 +1,16 @@
 -- What `show` and `check` answer, by the bytes that they are given.
-use Rattle.std.specs.Prelude.{◌≡◌, ℕ, cond, ◌⊎◌, List, Ok, Err, vec_items, Result, MatchResult}
+use Rattle.std.specs.Prelude.{◌≡◌, ℕ, ◌⊎◌, List, Ok, Err, vec_items, Result, MatchResult}
 use Rattle.fault.specs.declared.faults.Fault.{Fault}
 use Rattle.fault.specs.Checks.{Checks, Passes, Refuses}
 use Rattle.points.specs.Tables.{Table}
-use Rattle.sheets.specs.Kinds.{names_sparse, sheet_checks, sheet_table}
+use Rattle.sheets.specs.declared.kinds.Kind.{Kind}
+use Rattle.sheets.specs.Kinds.{kind_named, sheet_checks, sheet_table}
 use Rattle.sheets.specs.CertificateFiles.{Holds, Unread}
 use Rattle.sheets.specs.declared.certificate_files.Certificate.{Certificate}
 use Rattle.certificates.specs.Certificates.{Accepted, Refused}
 use Rattle.commands.specs.declared.calls.Failure.{Failure}
 use Rattle.commands.specs.declared.calls.Failure.TheVariants.{Refusal, NoCertificate}
 use Rattle.commands.specs.declared.lines.AcceptedLine.{AcceptedLine}
-use Rattle.commands.specs.declared.lines.Kind.{Kind}
-use Rattle.commands.specs.declared.lines.Kind.TheVariants.{Dense, Sparse}
 use Rattle.commands.specs.declared.lines.SheetLine.{SheetLine}
 use Rattle.commands.specs.Lines.{sheet_line}
 
@@ -21,7 +20,7 @@ ShownAs kind c t r = MatchResult r (λ l. Passes c × (l ≡ sheet_line kind t))
 
 -- the same of a sheet's bytes, by the kind that the header names
 abbrev pub Shown : List ℕ → Result SheetLine Fault → Type 0
-Shown bs r = ShownAs (cond (names_sparse bs) Sparse Dense) (sheet_checks bs) (sheet_table bs) r
+Shown bs r = ShownAs (kind_named bs) (sheet_checks bs) (sheet_table bs) r
 
 -- seats and prices checked over a table whose bytes are refused first
 abbrev pub JudgedBy : Checks → Table → List ℕ → List ℕ → Result AcceptedLine Fault → Type 0

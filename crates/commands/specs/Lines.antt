@@ -4,13 +4,9 @@ use Rattle.std.specs.Fmt.{signed_decimal}
 use Rattle.points.specs.declared.summaries.Range.{Range}
 use Rattle.points.specs.Summaries.{summary_of}
 use Rattle.points.specs.Tables.{Table}
-use Rattle.commands.specs.declared.lines.Kind.{Kind}
-use Rattle.commands.specs.declared.lines.Kind.TheVariants.{Dense, Sparse}
+use Rattle.sheets.specs.declared.kinds.Kind.{Kind}
+use Rattle.sheets.specs.Codes.{kind_name}
 use Rattle.commands.specs.declared.lines.SheetLine.{SheetLine}
-
-abbrev pub kind_name : Kind → List ℕ
-kind_name Dense = codes "dense"
-kind_name Sparse = codes "sparse"
 
 -- ` least L greatest G`, or nothing where no pair is allowed
 abbrev pub range_text : Option Range → List ℕ

@@ -1,19 +1,19 @@
 // The commands `show` and `check`, from bytes to their lines.
 ghost use Rattle.std.specs.Prelude.{◌≡◌};
+ghost use Rattle.sheets.specs.declared.kinds.Kind.TheVariants.{Dense, Sparse};
 ghost use Rattle.sheets.specs.Dense.{dense_checks, dense_table};
 ghost use Rattle.sheets.specs.Sparse.{sparse_checks, sparse_table};
-ghost use Rattle.commands.specs.declared.lines.Kind.TheVariants.{Dense, Sparse};
 ghost use Rattle.commands.specs.Lines.{sheet_line};
 ghost use Rattle.commands.specs.Answers.{ShownAs, Shown, JudgedBy, Judged, JudgedPlan, Checked};
 
-use crate::lines::{AcceptedLine, Kind, SheetLine};
+use crate::lines::{AcceptedLine, SheetLine};
 use certificates::checker::check;
 use fault::faults::Fault;
 use points::sources::{PairSource, RowSource};
 use points::summarize::summarize;
 use sheets::certificate_files::{Certificate, Unreadable, read_certificate};
 use sheets::dense::DenseSheet;
-use sheets::kinds::names_sparse;
+use sheets::kinds::{Kind, names_sparse};
 use sheets::sparse::SparseSheet;
 use std::alloc::Global;
 

@@ -1,27 +1,10 @@
 // The lines that commands print.
 ghost use Rattle.std.specs.Prelude.{Some};
-ghost use Rattle.commands.specs.Lines.{kind_name, range_text, sheet_text, accepted_text};
+ghost use Rattle.commands.specs.Lines.{range_text, sheet_text, accepted_text};
 
 use points::summaries::{Range, Summary};
+use sheets::kinds::Kind;
 use std::fmt;
-
-// The kinds of sheet.
-#[derive(Clone, Copy, PartialEq, Eq, Debug)]
-pub enum Kind {
-    Dense,
-    Sparse,
-}
-
-impl fmt::Display for Kind {
-    ghost output = { λ k. Some (kind_name k) };
-
-    fn fmt<W: fmt::Write>(&self, f: &mut fmt::Formatter<W>) -> fmt::Result {
-        match *self {
-            Kind::Dense => f.write_str("dense"),
-            Kind::Sparse => f.write_str("sparse"),
-        }
-    }
-}
 
 // The range of a sheet's points, where it allows any pair.
 #[derive(Clone, Copy)]

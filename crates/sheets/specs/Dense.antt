@@ -3,7 +3,9 @@ use Rattle.std.specs.Prelude.{ℕ, ◌+◌, ◌*◌, true, cond, ◌&&◌, List,
 use Rattle.fault.specs.declared.causes.Cause.TheVariants.{Length, Spans}
 use Rattle.fault.specs.Checks.{Checks, test, each, ◌then◌}
 use Rattle.points.specs.Tables.{Table}
+use Rattle.sheets.specs.declared.kinds.Kind.TheVariants.{Dense}
 use Rattle.sheets.specs.Bytes.{le32}
+use Rattle.sheets.specs.Codes.{code}
 use Rattle.sheets.specs.Headers.{size_in, spans_in, sheet_top, sheet_fault, header_checks, signed32, absent, word_checks}
 
 -- the first byte of the points of run i, at size n
@@ -13,7 +15,7 @@ row_at n i = 8 + 4 * (n * i)
 -- the header, no spans, and the exact length
 abbrev pub dense_frame : List ℕ → Checks
 dense_frame bs =
-    header_checks 0 bs
+    header_checks (code Dense) bs
     then test (spans_in bs == 0) (sheet_fault Spans 4)
     then test (length bs == 8 + 4 * (size_in bs * size_in bs)) (sheet_fault Length (length bs))
 

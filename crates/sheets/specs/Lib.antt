@@ -1,7 +1,9 @@
 pub mod Bytes
+pub mod Codes
 pub mod Headers
 pub mod Dense
 pub mod Kinds
+pub mod Any
 pub mod CertificateFiles
 pub mod Sparse
 pub mod Seeks

@@ -4,7 +4,9 @@ use Rattle.fault.specs.declared.causes.Cause.TheVariants.{Length, Spans}
 use Rattle.fault.specs.Checks.{Checks, test, each, ◌then◌}
 use Rattle.points.specs.Sums.{sum}
 use Rattle.points.specs.Tables.{Table}
+use Rattle.sheets.specs.declared.kinds.Kind.TheVariants.{Sparse}
 use Rattle.sheets.specs.Bytes.{le16, le32}
+use Rattle.sheets.specs.Codes.{code}
 use Rattle.sheets.specs.Headers.{size_in, spans_in, sheet_top, sheet_fault, header_checks, signed32, word_checks}
 
 -- no sheet has more spans than this
@@ -64,7 +66,7 @@ points_at bs = span_at (size_in bs) (spans_in bs)
 -- the header, a span count within the limit, and room for the rows and the spans
 abbrev pub sparse_frame : List ℕ → Checks
 sparse_frame bs =
-    header_checks 1 bs
+    header_checks (code Sparse) bs
     then test (nat_le (spans_in bs) span_limit) (sheet_fault Spans 4)
     then test (nat_le (points_at bs) (length bs)) (sheet_fault Length (length bs))
 

@@ -3,9 +3,11 @@ ghost use Rattle.std.specs.Prelude.{◌≡◌, ◌+◌, ◌*◌, ◌<◌, ◌≤
 ghost use Rattle.fault.specs.Checks.{Passes, Refuses};
 ghost use Rattle.fault.specs.declared.causes.Cause.TheVariants.{Points};
 ghost use Rattle.sheets.specs.Bytes.{le32};
+ghost use Rattle.sheets.specs.Codes.{code};
 ghost use Rattle.sheets.specs.Headers.{size_in, spans_in, sheet_fault, header_checks, in_range, taken, word_checks};
 
 use crate::fields::{Header, read_header, sheet_fault, u32_at};
+use crate::kinds::Kind;
 use fault::causes::Cause;
 use fault::faults::Fault;
 use points::limits::SIZE_LIMIT;
@@ -17,13 +19,13 @@ pub const SHEET_TOP: i32 = 1_000_000;
 pub(crate) const ABSENT: u32 = 0x8000_0000;
 
 // The header of a sheet of a kind, with a size from 1 to the limit.
-pub(crate) fn check_header(bytes: &[u8], kind: u16) -> Result<Header, Fault>
+pub(crate) fn check_header(bytes: &[u8], kind: Kind) -> Result<Header, Fault>
     ensures { MatchResult result
-        (λ h. Passes (header_checks kind bytes.now) × (h.size ≡ size_in bytes.now) × (h.spans ≡ spans_in bytes.now))
-        (λ f. Refuses (header_checks kind bytes.now) f) }
+        (λ h. Passes (header_checks (code kind) bytes.now) × (h.size ≡ size_in bytes.now) × (h.spans ≡ spans_in bytes.now))
+        (λ f. Refuses (header_checks (code kind) bytes.now) f) }
 {
     let header = read_header(bytes)?;
-    sheet_fault(Cause::Kind, 2).unless(header.kind == kind)?;
+    sheet_fault(Cause::Kind, 2).unless(header.kind == kind.code())?;
     sheet_fault(Cause::Size, 0).unless(1 <= header.size && usize::from(header.size) <= SIZE_LIMIT)?;
     Ok(header)
 }

@@ -1,13 +1,52 @@
-// Which kind of sheet a header names.
-ghost use Rattle.std.specs.Prelude.{◌≡◌};
-ghost use Rattle.sheets.specs.Kinds.{names_sparse};
+// The kinds of sheet, and which of them a header names.
+ghost use Rattle.std.specs.Prelude.{◌≡◌, Some};
+ghost use Rattle.sheets.specs.Codes.{code, kind_name};
+ghost use Rattle.sheets.specs.Kinds.{names_sparse, kind_named};
 
 use crate::fields::u16_at;
-use crate::rules::SPARSE_KIND;
+use std::fmt;
+
+// The kinds of sheet, by the code that a header has.
+#[derive(Clone, Copy, PartialEq, Eq, Debug)]
+pub enum Kind {
+    Dense = 0,
+    Sparse = 1,
+}
+
+impl Kind {
+    // The code of a kind.
+    pub fn code(self) -> u16
+        ensures { result ≡ code self }
+    {
+        self as u16
+    }
+
+    // The kind of the sheet that bytes should be: sparse where their header names that kind, and else dense.
+    pub fn named(bytes: &[u8]) -> Kind
+        ensures { result ≡ kind_named bytes.now }
+    {
+        if names_sparse(bytes) {
+            Kind::Sparse
+        } else {
+            Kind::Dense
+        }
+    }
+}
+
+impl fmt::Display for Kind {
+    ghost output = { λ k. Some (kind_name k) };
+
+    fn fmt<W: fmt::Write>(&self, f: &mut fmt::Formatter<W>) -> fmt::Result {
+        match *self {
+            Kind::Dense => f.write_str("dense"),
+            Kind::Sparse => f.write_str("sparse"),
+        }
+    }
+}
 
 // Whether a sheet's header names the sparse kind.
 pub fn names_sparse(bytes: &[u8]) -> bool
     ensures { result ≡ names_sparse bytes.now }
 {
-    4 <= bytes.len() && u16_at(bytes, 2) == SPARSE_KIND
+    4 <= bytes.len() && u16_at(bytes, 2) == Kind::Sparse.code()
 }

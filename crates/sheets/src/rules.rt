@@ -7,12 +7,10 @@ ghost use Rattle.sheets.specs.Sparse.{span_limit, row_from, row_end, span_at, sp
 
 use crate::checks::{check_header, check_words};
 use crate::fields::{Header, sheet_fault};
+use crate::kinds::Kind;
 use crate::spans::{Span, row_of, span_at, span_of};
 use fault::causes::Cause;
 use fault::faults::Fault;
-
-// The kind of a sparse sheet, as its header has it.
-pub const SPARSE_KIND: u16 = 1;
 
 // No sheet has more spans than this.
 pub const SPAN_LIMIT: u32 = 65_536;
@@ -23,7 +21,7 @@ pub(crate) fn check_frame(bytes: &[u8]) -> Result<Header, Fault>
         (λ h. Passes (sparse_frame bytes.now) × (h.size ≡ size_in bytes.now) × (h.spans ≡ spans_in bytes.now))
         (λ f. Refuses (sparse_frame bytes.now) f) }
 {
-    let header = check_header(bytes, SPARSE_KIND)?;
+    let header = check_header(bytes, Kind::Sparse)?;
     sheet_fault(Cause::Spans, 4).unless(header.spans <= SPAN_LIMIT)?;
     let end = span_at(usize::from(header.size), header.spans as usize);
     sheet_fault(Cause::Length, bytes.len()).unless(end <= bytes.len())?;

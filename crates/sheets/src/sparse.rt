@@ -1,29 +1,23 @@
 // Sparse sheets: spans of seats for every run, and the points of the covered seats.
-ghost use Rattle.std.specs.Prelude.{◌≡◌, ◌+◌, ◌-◌, ◌*◌, ◌<◌, ◌≤◌, max, true, [], length, MatchResult};
-ghost use Rattle.fault.specs.Checks.{Passes, Refuses, kept};
+ghost use Rattle.std.specs.Prelude.{◌≡◌, ◌+◌, ◌-◌, ◌*◌, ◌<◌, ◌≤◌, max, length, refl};
+ghost use Rattle.fault.specs.Checks.{Passes};
 ghost use Rattle.points.specs.Tables.{Next};
 ghost use Rattle.points.specs.Limits.{size_limit};
-ghost use Rattle.sheets.specs.Headers.{size_in, spans_in, sheet_top};
+ghost use Rattle.sheets.specs.Headers.{size_in, spans_in};
 ghost use Rattle.sheets.specs.Sparse.{span_limit, points_at, sparse_checks, point_word, sparse_table};
 ghost use Rattle.sheets.specs.Seeks.{point_by};
 ghost use Rattle.sheets.specs.Ranges.{sparse_lawful};
-ghost use Rattle.std.proofs.Common.{rules};
 
-use crate::fields::{no_bytes, u32_at};
+use crate::fields::u32_at;
 use crate::rules::check_sparse;
+use crate::sheet::{Layout, Sheet};
 use crate::spans::{Span, first_over, span_at};
 use fault::faults::Fault;
-use points::sources::{PairSource, RowSource};
-use std::alloc::Global;
 
-// A sparse sheet, by its bytes: none, or bytes that keep every rule.
-#[derive(Drop)]
-pub struct SparseSheet {
-    bytes: Vec<u8>,
-    size: usize,
-    ghost sized: { size ≡ size_in bytes.items },
-    ghost keeps: { 0 < length bytes.items → kept (sparse_checks bytes.items) ≡ true },
-}
+// Sparse sheets.
+pub struct Sparse;
+
+pub type SparseSheet = Sheet<Sparse>;
 
 // The word of a point, by its number.
 pub(crate) fn point_word(bytes: &[u8], size: usize, point: usize) -> u32
@@ -77,72 +71,26 @@ pub(crate) fn next_in(bytes: &[u8], size: usize, run: usize, from: usize) -> Opt
     Some(reached(span, from))
 }
 
-impl SparseSheet {
-    // The empty sheet, of size 0.
-    pub fn new(heap: Global) -> Self
-        ensures { result.bytes.items ≡ [] }
-    {
-        SparseSheet {
-            bytes: no_bytes(heap),
-            size: 0,
-        }
+impl Layout for Sparse {
+    ghost checks = { sparse_checks };
+
+    ghost table = { sparse_table };
+
+    ghost sized = { λ bs. refl };
+
+    ghost topped = { λ bs. refl };
+
+    ghost lawful = { sparse_lawful };
+
+    fn check(bytes: &[u8]) -> Result<usize, Fault> {
+        check_sparse(bytes)
     }
 
-    // Takes the bytes where they keep every rule; else says which rule they break first, and leaves the sheet as it was.
-    pub fn fill(&mut self, bytes: Vec<u8>) -> Result<(), Fault>
-        ensures { MatchResult result
-            (λ _. Passes (sparse_checks bytes.items) × (self.new.bytes ≡ bytes))
-            (λ f. Refuses (sparse_checks bytes.items) f × (self.new ≡ self.old)) }
-    {
-        *self = SparseSheet::read(bytes)?;
-        Ok(())
+    fn points(bytes: &[u8], size: usize, run: usize, seat: usize) -> Option<i32> {
+        points_in(bytes, size, run, seat)
     }
 
-    // The sheet of these bytes, where they keep every rule.
-    pub(crate) fn read(bytes: Vec<u8>) -> Result<SparseSheet, Fault>
-        ensures { MatchResult result
-            (λ s. Passes (sparse_checks bytes.items) × (s.bytes ≡ bytes))
-            (λ f. Refuses (sparse_checks bytes.items) f) }
-    {
-        let size = check_sparse(&bytes)?;
-        Ok(SparseSheet { bytes, size })
-    }
-}
-
-impl PairSource for SparseSheet {
-    const TOP: u32 = 1_000_000;
-
-    ghost top = { sheet_top };
-
-    ghost table = { λ s. sparse_table s.bytes.items };
-
-    ghost limits = { Prim.search rules };
-
-    ghost topped = { Prim.search rules };
-
-    ghost lawful = { λ s. sparse_lawful s.bytes.items s.keeps };
-
-    fn limit() -> u32 {
-        Self::TOP
-    }
-
-    fn size(&self) -> usize {
-        self.size
-    }
-
-    fn points(&self, run: usize, seat: usize) -> Option<i32> {
-        if run >= self.size {
-            return None;
-        }
-        points_in(&self.bytes, self.size, run, seat)
-    }
-}
-
-impl RowSource for SparseSheet {
-    fn next(&self, run: usize, from: usize) -> Option<usize> {
-        if run >= self.size {
-            return None;
-        }
-        next_in(&self.bytes, self.size, run, from)
+    fn next(bytes: &[u8], size: usize, run: usize, from: usize) -> Option<usize> {
+        next_in(bytes, size, run, from)
     }
 }
