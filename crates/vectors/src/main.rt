@@ -5,22 +5,13 @@ mod texts;
 use crate::texts::{bytes_in, numbers_in};
 use anyhow::anyhow;
 use commands::calls::{check_plan, show_sheet};
-use fault::faults::Fault;
+use commands::lines::text_of;
 use std::alloc::Global;
-use std::fmt::Display;
 use std::fs;
-
-// The text of a line, or of the refusal in its place.
-fn text_of<L: Display + Drop>(heap: Global, answer: Result<L, Fault>) -> anyhow::Result<String> {
-    match answer {
-        Ok(line) => Ok(line.to_string(heap)?),
-        Err(fault) => Ok(fault.to_string(heap)?),
-    }
-}
 
 // What `show` answers on a sheet in hexadecimal.
 fn show(heap: Global, input: &str) -> anyhow::Result<String> {
-    text_of(heap, show_sheet(heap, bytes_in(heap, input)?))
+    Ok(text_of(heap, show_sheet(bytes_in(heap, input)?))?)
 }
 
 // What `check` answers on a sheet in hexadecimal, seats and prices.
@@ -33,13 +24,11 @@ fn check(heap: Global, input: &str) -> anyhow::Result<String> {
     };
     let seats = numbers_in(heap, seats)?;
     let prices = numbers_in(heap, prices)?;
-    text_of(
-        heap,
-        check_plan(heap, bytes_in(heap, sheet)?, &seats, &prices),
-    )
+    let answer = check_plan(bytes_in(heap, sheet)?, &seats, &prices);
+    Ok(text_of(heap, answer)?)
 }
 
-// Every line of a file, an input and what it should come to by a command; prints those that disagree, and how many agree.
+// Every line of a file against what a command answers; prints those that disagree, and how many agree.
 fn run<F: Fn(Global, &str) -> anyhow::Result<String>>(
     rt: &HostRuntime,
     path: &str,
