@@ -1,6 +1,6 @@
 #![tactic(auto)]
 // The worked figures of the auction, run through the search, the ledger and a board.
-use crate::calls::{Play, run_scene};
+use crate::calls::run_scene;
 use boards::states::{CommonBoard, SiteBoard};
 use sheets::dense::DenseSheet;
 
@@ -32,7 +32,7 @@ fn at_once(rt: &HostRuntime) -> anyhow::Result<()> {
         &sheet,
         CommonBoard::new(),
         &[1],
-        |play: &mut Play<'_, DenseSheet, CommonBoard>| {
+        |play| {
             play.compose(0)?;
             play.deliver(0)?;
             play.compose(1)?;
@@ -47,7 +47,7 @@ fn at_once(rt: &HostRuntime) -> anyhow::Result<()> {
         &sheet,
         CommonBoard::new(),
         &[4, 1],
-        |play: &mut Play<'_, DenseSheet, CommonBoard>| {
+        |play| {
             play.compose(0)?;
             play.deliver(0)?;
             play.compose(1)?;
@@ -73,7 +73,7 @@ fn lagging(rt: &HostRuntime) -> anyhow::Result<()> {
         &sheet,
         SiteBoard::new(),
         &[1],
-        |play: &mut Play<'_, DenseSheet, SiteBoard>| {
+        |play| {
             play.compose(0)?;
             play.deliver(0)?;
             play.compose(1)?;
@@ -88,7 +88,7 @@ fn lagging(rt: &HostRuntime) -> anyhow::Result<()> {
         &sheet,
         SiteBoard::new(),
         &[1],
-        |play: &mut Play<'_, DenseSheet, SiteBoard>| {
+        |play| {
             play.compose(0)?;
             play.compose(1)?;
             play.deliver(1)?;
@@ -110,7 +110,7 @@ fn one_increment(rt: &HostRuntime) -> anyhow::Result<()> {
         &sheet,
         SiteBoard::new(),
         &[1],
-        |play: &mut Play<'_, DenseSheet, SiteBoard>| {
+        |play| {
             play.compose(0)?;
             play.compose(1)?;
             play.deliver(1)?;
@@ -124,7 +124,7 @@ fn one_increment(rt: &HostRuntime) -> anyhow::Result<()> {
         &tied,
         SiteBoard::new(),
         &[4, 1],
-        |play: &mut Play<'_, DenseSheet, SiteBoard>| {
+        |play| {
             play.compose(0)?;
             play.deliver(0)?;
             play.compose(1)?;
@@ -146,7 +146,7 @@ fn small(rt: &HostRuntime) -> anyhow::Result<()> {
         &one,
         CommonBoard::new(),
         &[1],
-        |play: &mut Play<'_, DenseSheet, CommonBoard>| { play.compose(0) },
+        |play| { play.compose(0) },
     )?;
     let none = sheet_of(rt, 1, &[ABSENT])?;
     run_scene(
@@ -155,7 +155,7 @@ fn small(rt: &HostRuntime) -> anyhow::Result<()> {
         &none,
         CommonBoard::new(),
         &[1],
-        |play: &mut Play<'_, DenseSheet, CommonBoard>| { play.compose(0) },
+        |play| { play.compose(0) },
     )?;
     let contested = sheet_of(rt, 2, &[0, ABSENT, 0, ABSENT])?;
     run_scene(
@@ -164,7 +164,7 @@ fn small(rt: &HostRuntime) -> anyhow::Result<()> {
         &contested,
         CommonBoard::new(),
         &[1],
-        |play: &mut Play<'_, DenseSheet, CommonBoard>| {
+        |play| {
             play.compose(0)?;
             play.deliver(0)?;
             play.compose(1)?;
@@ -178,7 +178,7 @@ fn small(rt: &HostRuntime) -> anyhow::Result<()> {
         &equal,
         CommonBoard::new(),
         &[1],
-        |play: &mut Play<'_, DenseSheet, CommonBoard>| { play.compose(0) },
+        |play| { play.compose(0) },
     )
 }
 
