@@ -107,7 +107,8 @@ auctions_hold (c ∷ cs) h = (h.0, auctions_hold cs h.1)
 
 pub worked_hold : AllHold worked_cases
 worked_hold =
-    let above : AllHold (map board boards.cases ++ map auction auctions.figures) =
-    joined_lists (map board boards.cases) (map auction auctions.figures) (boards_hold boards.cases boardly.worked) (auctions_hold auctions.figures figures_hold) in
-    joined_lists sheet_cases (checker_cases ++ (map board boards.cases ++ map auction auctions.figures)) sheets_hold
-    (joined_lists checker_cases (map board boards.cases ++ map auction auctions.figures) checker_holds above)
+    let calls : List Case = map board boards.cases in
+    let events : List Case = map auction auctions.figures in
+    joined_lists sheet_cases (checker_cases ++ (calls ++ events)) sheets_hold
+    (joined_lists checker_cases (calls ++ events) checker_holds
+    (joined_lists calls events (boards_hold boards.cases boardly.worked) (auctions_hold auctions.figures figures_hold)))

@@ -5,6 +5,7 @@ pub mod theorems;
 #[cfg(test)]
 mod tests {
     use commands::calls::{check_plan, show_sheet};
+    use commands::lines::text_of;
     use std::alloc::Global;
     use std::test::Fail;
 
@@ -23,17 +24,12 @@ mod tests {
     const POINTS: [u8; 12] = [7, 0, 0, 0, 7, 0, 0, 0, 7, 0, 0, 0];
 
     fn shown(heap: Global, bytes: Vec<u8>) -> Result<String, Fail> {
-        match show_sheet(heap, bytes) {
-            Ok(line) => Ok(line.to_string(heap)?),
-            Err(fault) => Ok(fault.to_string(heap)?),
-        }
+        Ok(text_of(heap, show_sheet(bytes))?)
     }
 
     fn checked(heap: Global, seats: &[u16], prices: &[u64]) -> Result<String, Fail> {
-        match check_plan(heap, Vec::from_slice(heap, &TWO_RUNS)?, seats, prices) {
-            Ok(line) => Ok(line.to_string(heap)?),
-            Err(fault) => Ok(fault.to_string(heap)?),
-        }
+        let bytes = Vec::from_slice(heap, &TWO_RUNS)?;
+        Ok(text_of(heap, check_plan(bytes, seats, prices))?)
     }
 
     // a sparse sheet of 4 runs whose first has the one span (from, 3)

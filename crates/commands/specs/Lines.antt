@@ -1,6 +1,8 @@
 -- The lines that commands print.
-use Rattle.std.specs.Prelude.{ℕ, List, [], ◌++◌, ℤ, Some, None, codes, decimal, Option}
+use Rattle.std.specs.Prelude.{ℕ, List, [], ◌++◌, ℤ, Some, None, Ok, Err, codes, decimal, Option, Result}
 use Rattle.std.specs.Fmt.{signed_decimal}
+use Rattle.fault.specs.declared.faults.Fault.{Fault}
+use Rattle.fault.specs.Lines.{line_of}
 use Rattle.points.specs.declared.summaries.Range.{Range}
 use Rattle.points.specs.Summaries.{summary_of}
 use Rattle.points.specs.Tables.{Table}
@@ -24,3 +26,8 @@ sheet_line k t = record { kind = k; runs = t.size; summary = summary_of t }
 -- `accepted total T`
 abbrev pub accepted_text : ℤ → List ℕ
 accepted_text a = codes "accepted total " ++ signed_decimal a
+
+-- the text of a line, if lines have one, or of the refusal in its place
+abbrev pub answer_text : {L : Type 0} → (L → Option (List ℕ)) → Result L Fault → Option (List ℕ)
+answer_text text (Ok l) = text l
+answer_text text (Err f) = Some (line_of f)

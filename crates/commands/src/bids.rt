@@ -1,9 +1,7 @@
 // The command `bid`: a run's first bid over a sheet.
 ghost use Rattle.std.specs.Prelude.{◌≡◌};
 ghost use Rattle.bidding.specs.Searches.{HasTerms};
-ghost use Rattle.sheets.specs.Dense.{dense_checks, dense_table};
-ghost use Rattle.sheets.specs.Sparse.{sparse_checks, sparse_table};
-ghost use Rattle.commands.specs.FirstBids.{BidsOrNone, FirstBidOf, BidBy, BidOver};
+ghost use Rattle.commands.specs.FirstBids.{BidsOrNone, FirstBidOf, BidOver};
 
 use crate::first_bid::{BidLine, FirstBid};
 use bidding::search::{compose_bid, seek};
@@ -15,57 +13,13 @@ use fault::faults::Fault;
 use fault::layers::Layer;
 use points::limits::SIZE_LIMIT;
 use points::sources::{PairSource, RowSource};
-use sheets::dense::DenseSheet;
-use sheets::kinds::names_sparse;
-use sheets::sparse::SparseSheet;
-use std::alloc::Global;
+use sheets::any::AnySheet;
 
 // A run's first bid over a sheet of either kind.
-pub fn bid_sheet(heap: Global, bytes: Vec<u8>, run: usize) -> Result<BidLine, Fault>
+pub fn bid_sheet(bytes: Vec<u8>, run: usize) -> Result<BidLine, Fault>
     ensures { BidOver bytes.items run result }
 {
-    if names_sparse(&bytes) {
-        bid_sparse(heap, bytes, run)
-    } else {
-        bid_dense(heap, bytes, run)
-    }
-}
-
-pub(crate) fn bid_dense(heap: Global, bytes: Vec<u8>, run: usize) -> Result<BidLine, Fault>
-    ensures { BidBy (dense_checks bytes.items) (dense_table bytes.items) run result }
-{
-    let mut sheet = DenseSheet::new(heap);
-    sheet.fill(bytes)?;
-    first_bid(&sheet, run)
-}
-
-pub(crate) fn bid_sparse(heap: Global, bytes: Vec<u8>, run: usize) -> Result<BidLine, Fault>
-    ensures { BidBy (sparse_checks bytes.items) (sparse_table bytes.items) run result }
-{
-    let mut sheet = SparseSheet::new(heap);
-    sheet.fill(bytes)?;
-    first_bid(&sheet, run)
-}
-
-// A run's bid over any source, on a board to which no price was told.
-pub(crate) fn bid_line<S: RowSource>(source: &S, terms: &Terms, run: usize) -> BidLine
-    requires { HasTerms (S.PairSource.table source.now).size (S.PairSource.table source.now).top 1 0 terms.now }
-    ensures { BidsOrNone (S.PairSource.table source.now) run result }
-{
-    let board = CommonBoard::new();
-    match compose_bid(source, &board, terms, run) {
-        None => BidLine::NoFullPlan(run),
-        Some(offer) => match seek(source, &board, terms, run) {
-            None => BidLine::NoFullPlan(run),
-            Some(best) => BidLine::Bid(FirstBid {
-                run,
-                seat: offer.seat,
-                net: best.net,
-                second: best.second,
-                price: offer.price,
-            }),
-        },
-    }
+    first_bid(&AnySheet::read(bytes)?, run)
 }
 
 // A run's first bid over any source.
@@ -76,8 +30,25 @@ pub(crate) fn first_bid<S: RowSource>(source: &S, run: usize) -> Result<BidLine,
     Fault::in_phase(Layer::Exchange, Cause::Number, 0, Some(run), None).unless(run < size)?;
     let refused = Fault::in_phase(Layer::Exchange, Cause::Size, 0, None, None);
     refused.unless(size <= SIZE_LIMIT)?;
-    match Terms::new(size as u16, S::limit(), 1, 0) {
-        None => Err(refused),
-        Some(terms) => Ok(bid_line(source, &terms, run)),
-    }
+    let terms = Terms::new(size as u16, S::limit(), 1, 0).ok_or(refused)?;
+    Ok(BidLine {
+        run,
+        bid: bid_at_start(source, &terms, run),
+    })
+}
+
+// A run's bid over any source, on a board to which no price was told.
+pub(crate) fn bid_at_start<S: RowSource>(source: &S, terms: &Terms, run: usize) -> Option<FirstBid>
+    requires { HasTerms (S.PairSource.table source.now).size (S.PairSource.table source.now).top 1 0 terms.now }
+    ensures { BidsOrNone (S.PairSource.table source.now) run result }
+{
+    let board = CommonBoard::new();
+    let offer = compose_bid(source, &board, terms, run)?;
+    let best = seek(source, &board, terms, run)?;
+    Some(FirstBid {
+        seat: offer.seat,
+        net: best.net,
+        second: best.second,
+        price: offer.price,
+    })
 }

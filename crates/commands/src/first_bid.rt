@@ -5,9 +5,8 @@ ghost use Rattle.commands.specs.FirstBids.{bid_text, bid_line_text};
 use std::fmt;
 
 // What a run bids where no price is above 0, in scaled points.
-#[derive(Clone, Copy)]
+#[derive(Clone, Copy, PartialEq, Eq, Debug)]
 pub struct FirstBid {
-    pub run: usize,
     // its best seat, and what that nets
     pub seat: usize,
     pub net: i64,
@@ -16,26 +15,21 @@ pub struct FirstBid {
     pub price: u64,
 }
 
-#[derive(Clone, Copy)]
-pub enum BidLine {
-    Bid(FirstBid),
-    // no full plan exists, as this run shows
-    NoFullPlan(usize),
+// A run's bid, or none where no full plan exists, as the run shows.
+#[derive(Clone, Copy, PartialEq, Eq, Debug)]
+pub struct BidLine {
+    pub run: usize,
+    pub bid: Option<FirstBid>,
 }
 
 impl fmt::Display for FirstBid {
     ghost output = { λ b. Some (bid_text b) };
 
     fn fmt<W: fmt::Write>(&self, f: &mut fmt::Formatter<W>) -> fmt::Result {
-        let bid = *self;
-        let run = bid.run;
-        let seat = bid.seat;
-        let net = bid.net;
-        let second = bid.second;
-        let price = bid.price;
         write!(
             f,
-            "run {run} seat {seat} net {net} second {second} price {price}"
+            "seat {} net {} second {} price {}",
+            self.seat, self.net, self.second, self.price
         )
     }
 }
@@ -44,9 +38,9 @@ impl fmt::Display for BidLine {
     ghost output = { λ l. Some (bid_line_text l) };
 
     fn fmt<W: fmt::Write>(&self, f: &mut fmt::Formatter<W>) -> fmt::Result {
-        match *self {
-            BidLine::Bid(bid) => write!(f, "{bid}"),
-            BidLine::NoFullPlan(run) => write!(f, "run {run} no full plan"),
+        match self.bid {
+            Some(bid) => write!(f, "run {} {bid}", self.run),
+            None => write!(f, "run {} no full plan", self.run),
         }
     }
 }

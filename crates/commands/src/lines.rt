@@ -1,9 +1,11 @@
 // The lines that commands print.
-ghost use Rattle.std.specs.Prelude.{Some};
-ghost use Rattle.commands.specs.Lines.{range_text, sheet_text, accepted_text};
+ghost use Rattle.std.specs.Prelude.{◌≡◌, Some, IfOk, IfSome, string_bytes};
+ghost use Rattle.commands.specs.Lines.{range_text, sheet_text, accepted_text, answer_text};
 
+use fault::faults::Fault;
 use points::summaries::{Range, Summary};
 use sheets::kinds::Kind;
+use std::alloc::{AllocError, Global};
 use std::fmt;
 
 // The range of a sheet's points, where it allows any pair.
@@ -16,17 +18,13 @@ impl fmt::Display for RangePart {
     fn fmt<W: fmt::Write>(&self, f: &mut fmt::Formatter<W>) -> fmt::Result {
         match self.0 {
             None => Ok(()),
-            Some(range) => {
-                let least = range.least;
-                let greatest = range.greatest;
-                write!(f, " least {least} greatest {greatest}")
-            }
+            Some(range) => write!(f, " least {} greatest {}", range.least, range.greatest),
         }
     }
 }
 
 // What a sheet comes to.
-#[derive(Clone, Copy)]
+#[derive(Clone, Copy, PartialEq, Eq, Debug)]
 pub struct SheetLine {
     pub kind: Kind,
     pub runs: usize,
@@ -37,16 +35,17 @@ impl fmt::Display for SheetLine {
     ghost output = { λ l. Some (sheet_text l) };
 
     fn fmt<W: fmt::Write>(&self, f: &mut fmt::Formatter<W>) -> fmt::Result {
-        let kind = self.kind;
-        let runs = self.runs;
-        let allowed = self.summary.allowed;
         let range = RangePart(self.summary.range);
-        write!(f, "kind {kind} runs {runs} allowed {allowed}{range}")
+        write!(
+            f,
+            "kind {} runs {} allowed {}{range}",
+            self.kind, self.runs, self.summary.allowed
+        )
     }
 }
 
 // An accepted certificate, by its plan's total.
-#[derive(Clone, Copy)]
+#[derive(Clone, Copy, PartialEq, Eq, Debug)]
 pub struct AcceptedLine {
     pub total: i64,
 }
@@ -55,7 +54,19 @@ impl fmt::Display for AcceptedLine {
     ghost output = { λ l. Some (accepted_text l.total) };
 
     fn fmt<W: fmt::Write>(&self, f: &mut fmt::Formatter<W>) -> fmt::Result {
-        let total = self.total;
-        write!(f, "accepted total {total}")
+        write!(f, "accepted total {}", self.total)
+    }
+}
+
+// The text of a line, or of the refusal in its place.
+pub fn text_of<L: fmt::Display + Drop>(
+    heap: Global,
+    answer: Result<L, Fault>,
+) -> Result<String, AllocError>
+    ensures { IfOk result (λ s. IfSome (answer_text L.output answer) (λ bs. string_bytes s ≡ bs)) }
+{
+    match answer {
+        Ok(line) => line.to_string(heap),
+        Err(fault) => fault.to_string(heap),
     }
 }

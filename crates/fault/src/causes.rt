@@ -29,11 +29,11 @@ pub enum Cause {
     NotComplete = 29,
 }
 
-impl Cause {
-    // The number by which a refusal names its cause.
-    pub fn number(self) -> u8
-        ensures { result ≡ number_of self }
-    {
-        self as u8
+// The number by which a refusal names its cause.
+impl From<Cause> for u8 {
+    ghost from_gives = { λ c n. n ≡ number_of c };
+
+    fn from(cause: Cause) -> u8 {
+        cause as u8
     }
 }

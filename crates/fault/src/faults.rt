@@ -7,7 +7,7 @@ use crate::causes::Cause;
 use crate::layers::Layer;
 use std::fmt;
 
-// Where a fault lies.
+// Where a fault lies; both are places of a refusal, so neither is a `Result`'s error.
 #[derive(Clone, Copy, PartialEq, Eq, Debug)]
 pub enum Place {
     // the first byte of the field at fault, or the input's length
@@ -58,7 +58,7 @@ impl Fault {
         }
     }
 
-    // One test: this fault where it comes out false.
+    // One test: this fault where it comes out false. (`test` is what came out, and chooses no step.)
     pub fn unless(self, test: bool) -> Result<(), Fault>
         ensures { MatchResult result (λ _. test ≡ true) (λ f. (test ≡ false) × (f ≡ self)) }
     {
@@ -79,19 +79,15 @@ impl fmt::Display for Place {
 
 // A word and a number, or nothing where there is no number.
 #[derive(Clone, Copy)]
-struct Named<'a> {
-    word: &'a str,
-    number: Option<usize>,
-}
+struct Named<'a>(&'a str, Option<usize>);
 
 impl fmt::Display for Named<'_> {
-    ghost output = { λ p. Some (named p.word.now p.number) };
+    ghost output = { λ p. Some (named p.0.now p.1) };
 
     fn fmt<W: fmt::Write>(&self, f: &mut fmt::Formatter<W>) -> fmt::Result {
-        let word = self.word;
-        match self.number {
+        match self.1 {
             None => Ok(()),
-            Some(number) => write!(f, "{word}{number}"),
+            Some(number) => write!(f, "{}{number}", self.0),
         }
     }
 }
@@ -100,17 +96,13 @@ impl fmt::Display for Fault {
     ghost output = { λ f. Some (line_of f) };
 
     fn fmt<W: fmt::Write>(&self, f: &mut fmt::Formatter<W>) -> fmt::Result {
-        let number = self.cause.number();
-        let layer = self.layer;
-        let place = self.place;
-        let run = Named {
-            word: " run ",
-            number: self.run,
-        };
-        let seat = Named {
-            word: " seat ",
-            number: self.seat,
-        };
-        write!(f, "refused {number} {layer} {place}{run}{seat}")
+        let number = u8::from(self.cause);
+        let run = Named(" run ", self.run);
+        let seat = Named(" seat ", self.seat);
+        write!(
+            f,
+            "refused {number} {} {}{run}{seat}",
+            self.layer, self.place
+        )
     }
 }

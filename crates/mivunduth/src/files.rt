@@ -1,54 +1,35 @@
 // The commands on files.
-use crate::messages::{Stop, fail, refuse};
+use crate::messages::Stop;
 use commands::bids::bid_sheet;
 use commands::calls::{check_sheet, show_sheet};
 use std::fs;
 
-// The bytes of a file, or a line that says why it cannot be read.
-fn read_file(rt: &HostRuntime, path: &str) -> Result<Vec<u8>, Stop> {
-    match fs::read(rt, path) {
-        Ok(bytes) => Ok(bytes),
-        Err(error) => {
-            eprintln!(rt; "mivunduth: cannot read {path}: {error}")?;
-            Err(Stop::Said)
-        }
-    }
+// The bytes of a file.
+fn read_file<'a>(rt: &HostRuntime, path: &'a str) -> Result<Vec<u8>, Stop<'a>> {
+    fs::read(rt, path).map_err(|error| Stop::NoFile(path, error))
 }
 
-pub fn show_file(rt: &HostRuntime, sheet: &str) -> Result<(), Stop> {
-    let bytes = read_file(rt, sheet)?;
-    match show_sheet(rt.alloc(), bytes) {
-        Ok(line) => {
-            println!(rt; "{line}")?;
-            Ok(())
-        }
-        Err(fault) => refuse(rt, fault),
-    }
+pub fn show_file<'a>(rt: &HostRuntime, sheet: &'a str) -> Result<(), Stop<'a>> {
+    let line = show_sheet(read_file(rt, sheet)?)?;
+    Ok(rt.println(line)?)
 }
 
-pub fn check_files(rt: &HostRuntime, sheet: &str, certificate: &str) -> Result<(), Stop> {
+pub fn check_files<'a>(
+    rt: &HostRuntime,
+    sheet: &'a str,
+    certificate: &'a str,
+) -> Result<(), Stop<'a>> {
     let bytes = read_file(rt, sheet)?;
     let plan = read_file(rt, certificate)?;
-    match check_sheet(rt.alloc(), bytes, &plan) {
-        Ok(line) => {
-            println!(rt; "{line}")?;
-            Ok(())
-        }
-        Err(failure) => fail(rt, certificate, failure),
-    }
+    let line = check_sheet(rt.alloc(), bytes, &plan).map_err(|failure| Stop::unchecked(
+        certificate,
+        failure,
+    ))?;
+    Ok(rt.println(line)?)
 }
 
-pub fn bid_file(rt: &HostRuntime, sheet: &str, run: &str) -> Result<(), Stop> {
-    let Ok(number) = run.parse::<usize>() else {
-        eprintln!(rt; "mivunduth: `{run}` is no number of a run")?;
-        return Err(Stop::Said);
-    };
-    let bytes = read_file(rt, sheet)?;
-    match bid_sheet(rt.alloc(), bytes, number) {
-        Ok(line) => {
-            println!(rt; "{line}")?;
-            Ok(())
-        }
-        Err(fault) => refuse(rt, fault),
-    }
+pub fn bid_file<'a>(rt: &HostRuntime, sheet: &'a str, run: &'a str) -> Result<(), Stop<'a>> {
+    let number = run.parse::<usize>().map_err(|_| Stop::NoRun(run))?;
+    let line = bid_sheet(read_file(rt, sheet)?, number)?;
+    Ok(rt.println(line)?)
 }

@@ -4,26 +4,14 @@ mod files;
 mod messages;
 
 use crate::files::{bid_file, check_files, show_file};
-use crate::messages::{Stop, USAGE, wrong_call};
-use std::env;
+use crate::messages::{Stop, USAGE};
 use std::process::ExitCode;
-
-// The words after the program's name.
-fn words_of(rt: &HostRuntime) -> Result<Vec<String>, Stop> {
-    let mut words = Vec::new(rt.alloc());
-    for word in env::args(rt)?.skip(1) {
-        words.push(word)?;
-    }
-    Ok(words)
-}
+use std::{env, io};
 
 // One call of the program, by its words.
-fn run(rt: &HostRuntime, words: &[String]) -> Result<(), Stop> {
+fn run<'a>(rt: &HostRuntime, words: &'a [String]) -> Result<(), Stop<'a>> {
     match words {
-        [help] if is_help(help.as_str()) => {
-            print!(rt; "{USAGE}")?;
-            Ok(())
-        }
+        [help] if is_help(help.as_str()) => Ok(rt.print(USAGE)?),
         [command, sheet] if command.as_str() == "show" => show_file(rt, sheet.as_str()),
         [command, sheet, run] if command.as_str() == "bid" => bid_file(
             rt,
@@ -35,25 +23,30 @@ fn run(rt: &HostRuntime, words: &[String]) -> Result<(), Stop> {
             sheet.as_str(),
             certificate.as_str(),
         ),
-        _ => wrong_call(rt, words),
+        _ => Err(Stop::NoCall(words.first().map(|word| word.as_str()))),
     }
 }
 
 fn is_help(word: &str) -> bool {
-    word == "--help" || word == "-h" || word == "help"
+    matches!(word, "--help" | "-h" | "help")
 }
 
-// The call that the words of the command line make.
-fn call(rt: &HostRuntime) -> Result<(), Stop> {
-    let words = words_of(rt)?;
-    run(rt, &words)
+// The call that the words of the command line make, and what it ends with.
+fn call(rt: &HostRuntime) -> io::Result<ExitCode> {
+    let words: Vec<String> = env::args(rt)?.skip(1).collect(rt.alloc())?;
+    match run(rt, &words) {
+        Ok(()) => Ok(ExitCode::SUCCESS),
+        Err(stop) => {
+            eprint!(rt; "{stop}")?;
+            Ok(ExitCode::FAILURE)
+        }
+    }
 }
 
 fn main(rt: HostRuntime) -> ExitCode {
     match call(&rt) {
-        Ok(()) => ExitCode::SUCCESS,
-        Err(Stop::Said) => ExitCode::FAILURE,
-        Err(Stop::Lines(error)) => {
+        Ok(code) => code,
+        Err(error) => {
             let _ = eprintln!(rt; "mivunduth: {error}");
             ExitCode::FAILURE
         }

@@ -3,34 +3,23 @@ use commands::calls::Failure;
 use fault::causes::Cause;
 use fault::faults::Fault;
 use sheets::certificate_files::Unreadable;
-use std::alloc::{AllocError, AllocFailed};
-use std::io;
+use std::{fmt, io};
 
-// Why the program ends with status 1.
+// Why the program ends with status 1: what it says on standard error.
 #[derive(Drop)]
-pub enum Stop {
-    // it has said why on standard error
-    Said,
-    // its words cannot be read, or what it says cannot be written
-    Lines(io::Error),
-}
-
-impl From<io::Error> for Stop {
-    fn from(error: io::Error) -> Stop {
-        Stop::Lines(error)
-    }
-}
-
-impl From<AllocError> for Stop {
-    fn from(error: AllocError) -> Stop {
-        Stop::Lines(error.into())
-    }
-}
-
-impl<T: Drop> From<AllocFailed<T>> for Stop {
-    fn from(_refused: AllocFailed<T>) -> Stop {
-        Stop::Lines(AllocError.into())
-    }
+pub enum Stop<'a> {
+    // the sheet or the certificate is refused
+    Refused(Fault),
+    // a file that cannot be read
+    NoFile(&'a str, io::Error),
+    // a file that is no certificate
+    NoCertificate(&'a str, Unreadable),
+    // a word that is no number of a run
+    NoRun(&'a str),
+    // a call that is none of the program's, by its first word
+    NoCall(Option<&'a str>),
+    // an answer that cannot be written
+    NoAnswer(io::Error),
 }
 
 pub const USAGE: &str =
@@ -44,68 +33,81 @@ little-endian. Answers go to standard output; a refusal is one line on standard
 error, and the program then ends with status 1.
 ";
 
+impl From<Fault> for Stop<'_> {
+    fn from(fault: Fault) -> Self {
+        Stop::Refused(fault)
+    }
+}
+
+impl From<io::Error> for Stop<'_> {
+    fn from(error: io::Error) -> Self {
+        Stop::NoAnswer(error)
+    }
+}
+
+impl<'a> Stop<'a> {
+    // A certificate's check that failed, by the certificate's file.
+    pub fn unchecked(certificate: &'a str, failure: Failure) -> Stop<'a> {
+        match failure {
+            Failure::Refusal(fault) => Stop::Refused(fault),
+            Failure::NoCertificate(why) => Stop::NoCertificate(certificate, why),
+        }
+    }
+}
+
+impl fmt::Display for Stop<'_> {
+    fn fmt<W: fmt::Write>(&self, f: &mut fmt::Formatter<W>) -> fmt::Result {
+        match self {
+            Stop::Refused(fault) => writeln!(f, "{fault}: {}", Explained(fault.cause)),
+            Stop::NoFile(path, error) => writeln!(f, "mivunduth: cannot read {path}: {error}"),
+            Stop::NoCertificate(path, Unreadable::Length) => writeln!(
+                f,
+                "mivunduth: {path} is no certificate: its length is no multiple of 10 bytes"
+            ),
+            Stop::NoCertificate(path, Unreadable::Memory) => {
+                writeln!(f, "mivunduth: not enough memory to read {path}")
+            }
+            Stop::NoRun(word) => writeln!(f, "mivunduth: `{word}` is no number of a run"),
+            Stop::NoCall(None) => f.write_str(USAGE),
+            Stop::NoCall(Some(command)) => write!(
+                f,
+                "mivunduth: `{command}` with these words is no call\n{USAGE}"
+            ),
+            Stop::NoAnswer(error) => writeln!(f, "mivunduth: {error}"),
+        }
+    }
+}
+
 // What a cause means, for a person.
-fn explanation(cause: Cause) -> &'static str {
-    match cause {
-        Cause::Length => "the input has the wrong length",
-        Cause::Size => "the number of runs is not from 1 to 256",
-        Cause::Kind => "the sheet is of another kind",
-        Cause::Points => "points out of range",
-        Cause::Spans => "the span count, a row or a span is broken",
-        Cause::Ladder => "the ladder of increments is not allowed",
-        Cause::Allowance => "the allowance is not allowed",
-        Cause::Number => "a run or seat is not below the number of runs",
-        Cause::Buffer => "there are not as many seats and prices as runs",
-        Cause::NotAllowed => "the run is not allowed this seat",
-        Cause::SeatTaken => "a lower run holds this seat too",
-        Cause::PriceTooHigh => "the price of this seat is too high",
-        Cause::NotContent => "the run would gain over one increment on this seat",
-        Cause::NotStarted => "the exchange is not started",
-        Cause::AlreadyStarted => "the exchange is started already",
-        Cause::HoldsSeat => "the run holds a seat",
-        Cause::BidOut => "a bid of the run is out already",
-        Cause::NoBidOut => "no bid of the run is out",
-        Cause::AllowanceSpent => "the allowance of bids is spent",
-        Cause::NoFullPlan => "no full plan exists",
-        Cause::RunFree => "a run is free",
-        Cause::LastPhase => "this is the last phase",
-        Cause::NotComplete => "the exchange did not end complete",
-    }
-}
+#[derive(Clone, Copy)]
+struct Explained(Cause);
 
-// A refusal: its line with an explanation on standard error, and status 1.
-pub fn refuse(rt: &HostRuntime, fault: Fault) -> Result<(), Stop> {
-    let why = explanation(fault.cause);
-    eprintln!(rt; "{fault}: {why}")?;
-    Err(Stop::Said)
-}
-
-// A command that failed.
-pub fn fail(rt: &HostRuntime, certificate: &str, failure: Failure) -> Result<(), Stop> {
-    match failure {
-        Failure::Refusal(fault) => refuse(rt, fault),
-        Failure::NoCertificate(Unreadable::Length) => {
-            eprintln!(rt;
-                "mivunduth: {certificate} is no certificate: its length is no multiple of 10 bytes"
-            )?;
-            Err(Stop::Said)
-        }
-        Failure::NoCertificate(Unreadable::Memory) => {
-            eprintln!(rt; "mivunduth: not enough memory to read {certificate}")?;
-            Err(Stop::Said)
-        }
+impl fmt::Display for Explained {
+    fn fmt<W: fmt::Write>(&self, f: &mut fmt::Formatter<W>) -> fmt::Result {
+        f.write_str(match self.0 {
+            Cause::Length => "the input has the wrong length",
+            Cause::Size => "the number of runs is not from 1 to 256",
+            Cause::Kind => "the sheet is of another kind",
+            Cause::Points => "points out of range",
+            Cause::Spans => "the span count, a row or a span is broken",
+            Cause::Ladder => "the ladder of increments is not allowed",
+            Cause::Allowance => "the allowance is not allowed",
+            Cause::Number => "a run or seat is not below the number of runs",
+            Cause::Buffer => "there are not as many seats and prices as runs",
+            Cause::NotAllowed => "the run is not allowed this seat",
+            Cause::SeatTaken => "a lower run holds this seat too",
+            Cause::PriceTooHigh => "the price of this seat is too high",
+            Cause::NotContent => "the run would gain over one increment on this seat",
+            Cause::NotStarted => "the exchange is not started",
+            Cause::AlreadyStarted => "the exchange is started already",
+            Cause::HoldsSeat => "the run holds a seat",
+            Cause::BidOut => "a bid of the run is out already",
+            Cause::NoBidOut => "no bid of the run is out",
+            Cause::AllowanceSpent => "the allowance of bids is spent",
+            Cause::NoFullPlan => "no full plan exists",
+            Cause::RunFree => "a run is free",
+            Cause::LastPhase => "this is the last phase",
+            Cause::NotComplete => "the exchange did not end complete",
+        })
     }
-}
-
-// A call that is none of the program's.
-pub fn wrong_call(rt: &HostRuntime, words: &[String]) -> Result<(), Stop> {
-    match words {
-        [] => {}
-        [command, ..] => {
-            let command = command.as_str();
-            eprintln!(rt; "mivunduth: `{command}` with these words is no call")?;
-        }
-    }
-    eprint!(rt; "{USAGE}")?;
-    Err(Stop::Said)
 }

@@ -1,175 +1,170 @@
 // A plain reading of both kinds of sheet, for tests alone: the first fault of the bytes, if any.
-ghost use Rattle.std.specs.Prelude.{◌<◌, ◌≤◌};
+ghost use Rattle.std.specs.Prelude.{◌≡◌, ◌+◌, ◌*◌, ◌<◌};
 
 use fault::causes::Cause;
 use fault::faults::Fault;
 use fault::layers::Layer;
 
-// A byte, 0 past the end.
-fn byte(bytes: &[u8], at: u64) -> u64
-    ensures { result < 256 }
-{
-    match bytes.get(at as usize) {
-        Some(b) => u64::from(*b),
-        None => 0,
-    }
-}
+// The codes of the kinds and the word of no pair, in numbers of its own: the reading shares nothing with what it tests.
+const DENSE: u16 = 0;
 
-// A field of two bytes.
-fn half(bytes: &[u8], at: u64) -> u64
-    ensures { result < 65536 }
-{
-    byte(bytes, at) + 256 * byte(bytes, at.wrapping_add(1))
-}
+const SPARSE: u16 = 1;
 
-// A field of four bytes.
-fn word(bytes: &[u8], at: u64) -> u64
-    ensures { result < 4294967296 }
-{
-    half(bytes, at) + 65_536 * half(bytes, at.wrapping_add(2))
-}
-
-fn fault(cause: Cause, at: u64) -> Option<Fault> {
-    Some(Fault::at_byte(Layer::Sheet, cause, at as usize))
-}
-
-// The first fault of the header, for a kind of sheet.
-fn header_fault(bytes: &[u8], kind: u64) -> Option<Fault> {
-    let length = bytes.len() as u64;
-    let size = half(bytes, 0);
-    if length < 8 {
-        fault(Cause::Length, length)
-    } else if half(bytes, 2) != kind {
-        fault(Cause::Kind, 2)
-    } else if size == 0 || size > 256 {
-        fault(Cause::Size, 0)
-    } else {
-        None
-    }
-}
-
-// The first word from a byte on, up to the end, that is no points; a dense sheet has the mark 0x80000000 besides.
-fn points_fault(bytes: &[u8], from: u64, dense: bool) -> Option<Fault> {
-    let count = (bytes.len() as u64).saturating_sub(from) / 4;
-    for k in 0..count {
-        let at = from.wrapping_add(4 * k);
-        let points = word(bytes, at);
-        let small = points <= 1_000_000 || points >= 4_293_967_296;
-        if !small && !(dense && points == 2_147_483_648) {
-            return fault(Cause::Points, at);
-        }
-    }
-    None
-}
+const ABSENT: u32 = 0x8000_0000;
 
 // The first fault of a dense sheet.
 pub fn dense_fault(bytes: &[u8]) -> Option<Fault> {
-    let length = bytes.len() as u64;
-    let size = half(bytes, 0);
-    if let Some(found) = header_fault(bytes, 0) {
-        return Some(found);
-    }
-    if word(bytes, 4) != 0 {
-        return fault(Cause::Spans, 4);
-    }
-    if length != size.wrapping_mul(size).wrapping_mul(4).wrapping_add(8) {
-        return fault(Cause::Length, length);
-    }
-    points_fault(bytes, 8, true)
-}
-
-// The first fault of the rows of a sparse sheet.
-fn rows_fault(bytes: &[u8], size: u64, spans: u64) -> Option<Fault>
-    requires { size ≤ 65535 }
-{
-    let mut end = 0;
-    for i in 0..size {
-        let offset = word(bytes, 8 + 8 * i);
-        if offset != end {
-            return fault(Cause::Spans, 8 + 8 * i);
-        }
-        end = offset + word(bytes, 12 + 8 * i);
-        let last = i + 1 == size;
-        if end > spans || last && end != spans {
-            return fault(Cause::Spans, 12 + 8 * i);
-        }
-    }
-    None
-}
-
-// Where a span has its fault, if it has one: after a span that ends at `before`, with `covered` points before it.
-fn span_fault(bytes: &[u8], size: u64, at: u64, before: u64, covered: u64) -> Option<Fault> {
-    let offset = half(bytes, at);
-    let length = half(bytes, at.wrapping_add(2));
-    if offset < before {
-        return fault(Cause::Spans, at);
-    }
-    if length == 0 || offset + length > size {
-        return fault(Cause::Spans, at.wrapping_add(2));
-    }
-    if word(bytes, at.wrapping_add(4)) != covered {
-        return fault(Cause::Spans, at.wrapping_add(4));
-    }
-    None
-}
-
-// Whether a row that has spans starts with span j.
-fn starts_row(bytes: &[u8], size: u64, j: u64) -> bool
-    requires { size ≤ 65535 }
-{
-    for i in 0..size {
-        if word(bytes, 8 + 8 * i) == j && word(bytes, 12 + 8 * i) != 0 {
-            return true;
-        }
-    }
-    false
-}
-
-// The first fault of the spans, and how many points they have: span after span.
-fn spans_fault(bytes: &[u8], size: u64, spans: u64) -> (Option<Fault>, u64)
-    requires { (size ≤ 65535) × (spans ≤ 65536) }
-{
-    let mut before = 0;
-    let mut covered = 0;
-    for j in 0..spans {
-        if starts_row(bytes, size, j) {
-            before = 0;
-        }
-        let at = 8 + 8 * size + 8 * j;
-        let found = span_fault(bytes, size, at, before, covered);
-        if found.is_some() {
-            return (found, covered);
-        }
-        before = half(bytes, at) + half(bytes, at + 2);
-        covered = covered.wrapping_add(half(bytes, at + 2));
-    }
-    (None, covered)
+    Reading(bytes).read_dense().err()
 }
 
 // The first fault of a sparse sheet.
 pub fn sparse_fault(bytes: &[u8]) -> Option<Fault> {
-    let length = bytes.len() as u64;
-    let size = half(bytes, 0);
-    let spans = word(bytes, 4);
-    if let Some(found) = header_fault(bytes, 1) {
-        return Some(found);
+    Reading(bytes).read_sparse().err()
+}
+
+// Fails with a fault at a byte unless a test comes out true.
+fn must(test: bool, cause: Cause, at: usize) -> Result<(), Fault> {
+    Fault::at_byte(Layer::Sheet, cause, at).unless(test)
+}
+
+// Whether a word is points from -1,000,000 to 1,000,000.
+fn is_points(word: u32) -> bool {
+    word <= 1_000_000 || word >= 4_293_967_296
+}
+
+// A sheet's bytes, read as if there were zeros past their end.
+#[derive(Clone, Copy)]
+struct Reading<'a>(&'a [u8]);
+
+impl Reading<'_> {
+    fn byte(self, at: usize) -> u8 {
+        self.0.get(at).copied().unwrap_or(0)
     }
-    if spans > 65_536 {
-        return fault(Cause::Spans, 4);
+
+    // A field of two bytes.
+    fn half(self, at: usize) -> u16 {
+        u16::from_le_bytes([0, 1].map(|k| self.byte(at.wrapping_add(k))))
     }
-    let start = 8 + 8 * size + 8 * spans;
-    if length < start {
-        return fault(Cause::Length, length);
+
+    // A field of four bytes.
+    fn word(self, at: usize) -> u32 {
+        u32::from_le_bytes([0, 1, 2, 3].map(|k| self.byte(at.wrapping_add(k))))
     }
-    if let Some(found) = rows_fault(bytes, size, spans) {
-        return Some(found);
+
+    // The header, for a kind of sheet; answers the size.
+    fn read_header(self, kind: u16) -> Result<u16, Fault> {
+        let size = self.half(0);
+        must(self.0.len() >= 8, Cause::Length, self.0.len())?;
+        must(self.half(2) == kind, Cause::Kind, 2)?;
+        must(1 <= size && size <= 256, Cause::Size, 0)?;
+        Ok(size)
     }
-    let (found, covered) = spans_fault(bytes, size, spans);
-    if found.is_some() {
-        return found;
+
+    // The exact length.
+    fn read_length(self, length: usize) -> Result<(), Fault> {
+        must(self.0.len() == length, Cause::Length, self.0.len())
     }
-    if length != covered.wrapping_mul(4).wrapping_add(start) {
-        return fault(Cause::Length, length);
+
+    // The words from a byte on, up to the end: each is one that is taken.
+    fn read_points<F: Fn(u32) -> bool>(self, from: usize, is_taken: F) -> Result<(), Fault>
+        requires { F.IsAlwaysCallable is_taken }
+    {
+        let wrong = (from..self.0.len())
+            .step_by(4)
+            .find(|at| !is_taken(self.word(*at)));
+        match wrong {
+            None => Ok(()),
+            Some(at) => must(false, Cause::Points, at),
+        }
     }
-    points_fault(bytes, start, false)
+
+    fn read_dense(self) -> Result<(), Fault> {
+        let size = usize::from(self.read_header(DENSE)?);
+        must(self.word(4) == 0, Cause::Spans, 4)?;
+        self.read_length(8 + 4 * size * size)?;
+        self.read_points(8, |word| is_points(word) || word == ABSENT)
+    }
+
+    fn read_sparse(self) -> Result<(), Fault> {
+        let size = self.read_header(SPARSE)?;
+        let spans = self.word(4);
+        must(spans <= 65_536, Cause::Spans, 4)?;
+        let start = span_at(size, spans);
+        must(self.0.len() >= start, Cause::Length, self.0.len())?;
+        self.read_rows(size, spans)?;
+        let covered = self.read_spans(size, spans)?;
+        self.read_length(covered.wrapping_mul(4).wrapping_add(start))?;
+        self.read_points(start, is_points)
+    }
+
+    // The rows: each starts with the span after the row before, and the last ends with the last span.
+    fn read_rows(self, size: u16, spans: u32) -> Result<(), Fault> {
+        let spans = u64::from(spans);
+        let mut end = 0;
+        for row in 0..size {
+            let at = row_at(row);
+            let from = u64::from(self.word(at));
+            must(from == end, Cause::Spans, at)?;
+            end = from + u64::from(self.word(at + 4));
+            let is_last = row + 1 == size;
+            must(
+                end <= spans && (end == spans || !is_last),
+                Cause::Spans,
+                at + 4,
+            )?;
+        }
+        Ok(())
+    }
+
+    // Whether a row that has spans starts with a span.
+    fn starts_row(self, size: u16, span: u32) -> bool {
+        (0..size)
+            .map(row_at)
+            .any(|at| self.word(at) == span && self.word(at + 4) != 0)
+    }
+
+    // The spans, one after another; answers how many points they have.
+    fn read_spans(self, size: u16, spans: u32) -> Result<usize, Fault> {
+        let mut before = 0;
+        let mut covered = 0;
+        for span in 0..spans {
+            if self.starts_row(size, span) {
+                before = 0;
+            }
+            let at = span_at(size, span);
+            self.read_span(size, span, before, covered)?;
+            let length = usize::from(self.half(at + 2));
+            before = usize::from(self.half(at)) + length;
+            covered = covered.wrapping_add(length);
+        }
+        Ok(covered)
+    }
+
+    // A span after one of its row that ends at `before`, with `covered` points before it.
+    fn read_span(self, size: u16, span: u32, before: usize, covered: usize) -> Result<(), Fault> {
+        let at = span_at(size, span);
+        let from = usize::from(self.half(at));
+        let length = usize::from(self.half(at + 2));
+        must(from >= before, Cause::Spans, at)?;
+        must(
+            length >= 1 && from + length <= usize::from(size),
+            Cause::Spans,
+            at + 2,
+        )?;
+        must(self.word(at + 4) as usize == covered, Cause::Spans, at + 4)
+    }
+}
+
+// The first byte of a row.
+fn row_at(row: u16) -> usize
+    ensures { result ≡ 8 + 8 * row }
+{
+    8 + 8 * usize::from(row)
+}
+
+// The first byte of a span, or of the points after the last.
+fn span_at(size: u16, span: u32) -> usize
+    ensures { result ≡ 8 + 8 * size + 8 * span }
+{
+    row_at(size) + 8 * (span as usize)
 }

@@ -50,7 +50,8 @@ fn agree_where_set(rt: &impl Abort, heap: Global, sheet: &[u8], at: usize) -> Re
     Ok(())
 }
 
-// A sheet with each of its bytes set, cut off at each byte, and lengthened by up to eight bytes.
+// A sheet with each of its bytes set, cut off at each byte, and lengthened by up to eight bytes: a loop over places,
+// since each is both set and cut off at.
 fn agree_where_damaged(rt: &impl Abort, heap: Global, sheet: &[u8]) -> Result<(), Fail> {
     for at in 0..sheet.len() {
         agree_where_set(rt, heap, sheet, at)?;
@@ -64,6 +65,7 @@ fn agree_where_damaged(rt: &impl Abort, heap: Global, sheet: &[u8]) -> Result<()
     agree(rt, heap, &bytes)
 }
 
+// (two tests of two lines, so that each kind comes out by itself)
 #[test]
 fn damaged_dense_sheets(rt: HostRuntime) -> Result<(), Fail> {
     assert_eq!(rt; dense_fault(&DENSE), None);

@@ -2,18 +2,16 @@
 // Runs the vectors of sheets and certificates, and says how many come out as they are written down.
 mod texts;
 
-use crate::texts::{bytes_in, prices_in, seats_in};
+use crate::texts::{bytes_in, numbers_in};
 use anyhow::anyhow;
 use commands::calls::{check_plan, show_sheet};
+use commands::lines::text_of;
 use std::alloc::Global;
 use std::fs;
 
 // What `show` answers on a sheet in hexadecimal.
 fn show(heap: Global, input: &str) -> anyhow::Result<String> {
-    match show_sheet(heap, bytes_in(heap, input)?) {
-        Ok(line) => Ok(line.to_string(heap)?),
-        Err(fault) => Ok(fault.to_string(heap)?),
-    }
+    Ok(text_of(heap, show_sheet(bytes_in(heap, input)?))?)
 }
 
 // What `check` answers on a sheet in hexadecimal, seats and prices.
@@ -24,33 +22,27 @@ fn check(heap: Global, input: &str) -> anyhow::Result<String> {
     let Some((seats, prices)) = rest.split_once(' ') else {
         return Err(anyhow!("a line without prices"));
     };
-    let seats = seats_in(heap, seats)?;
-    let prices = prices_in(heap, prices)?;
-    match check_plan(heap, bytes_in(heap, sheet)?, &seats, &prices) {
-        Ok(line) => Ok(line.to_string(heap)?),
-        Err(fault) => Ok(fault.to_string(heap)?),
-    }
+    let seats = numbers_in(heap, seats)?;
+    let prices = numbers_in(heap, prices)?;
+    let answer = check_plan(bytes_in(heap, sheet)?, &seats, &prices);
+    Ok(text_of(heap, answer)?)
 }
 
-// One line of a file: an input, what it should come to, and whether it is a certificate's.
-fn agrees(heap: Global, input: &str, answer: &str, certificate: bool) -> anyhow::Result<bool> {
-    let came = if certificate {
-        check(heap, input)?
-    } else {
-        show(heap, input)?
-    };
-    Ok(came.as_str() == answer)
-}
-
-// Every line of a file; prints those that disagree, and how many agree.
-fn run(rt: &HostRuntime, path: &str, certificates: bool) -> anyhow::Result<()> {
+// Every line of a file against what a command answers; prints those that disagree, and how many agree.
+fn run<F: Fn(Global, &str) -> anyhow::Result<String>>(
+    rt: &HostRuntime,
+    path: &str,
+    command: F,
+) -> anyhow::Result<()>
+    requires { F.IsAlwaysCallable command }
+{
     let text = fs::read_to_string(rt, path)?;
     let mut good: u64 = 0;
     let mut all: u64 = 0;
     for line in text.as_str().lines() {
         if let Some((input, answer)) = line.split_once(" => ") {
             all = all.saturating_add(1);
-            if agrees(rt.alloc(), input, answer, certificates)? {
+            if command(rt.alloc(), input)?.as_str() == answer {
                 good = good.saturating_add(1);
             } else {
                 println!(rt; "{path} disagrees: {line}")?;
@@ -62,6 +54,6 @@ fn run(rt: &HostRuntime, path: &str, certificates: bool) -> anyhow::Result<()> {
 }
 
 fn main(rt: HostRuntime) -> anyhow::Result<()> {
-    run(&rt, "sheets.txt", false)?;
-    run(&rt, "certificates.txt", true)
+    run(&rt, "sheets.txt", show)?;
+    run(&rt, "certificates.txt", check)
 }

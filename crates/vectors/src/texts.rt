@@ -1,44 +1,23 @@
 // Bytes in hexadecimal, and lists of numbers parted by commas.
 use std::alloc::Global;
-
-fn digit(b: u8) -> Option<u8> {
-    match b {
-        b'0'..=b'9' => Some(b - b'0'),
-        b'a'..=b'f' => Some(b - b'a' + 10),
-        _ => None,
-    }
-}
+use std::error::Error;
+use std::str::FromStr;
 
 // The bytes of a text in hexadecimal; `-` stands for none.
 pub fn bytes_in(heap: Global, text: &str) -> anyhow::Result<Vec<u8>> {
-    let mut bytes = Vec::new(heap);
-    let mut high: Option<u8> = None;
-    for b in text.bytes() {
-        if let Some(d) = digit(b) {
-            match high {
-                None => high = Some(d),
-                Some(h) => {
-                    bytes.push((h & 15) * 16 + (d & 15))?;
-                    high = None;
-                }
-            }
-        }
-    }
-    Ok(bytes)
+    let digits: Vec<u32> = text.chars().filter_map(|c| c.to_digit(16)).collect(heap)?;
+    let bytes = digits
+        .chunks_exact(2)
+        .map(|pair| ((pair[0] & 15) * 16 + (pair[1] & 15)) as u8);
+    Ok(bytes.collect(heap)?)
 }
 
-pub fn seats_in(heap: Global, text: &str) -> anyhow::Result<Vec<u16>> {
-    let mut seats = Vec::new(heap);
-    for word in text.split(',') {
-        seats.push(word.parse::<u16>()?)?;
-    }
-    Ok(seats)
-}
-
-pub fn prices_in(heap: Global, text: &str) -> anyhow::Result<Vec<u64>> {
-    let mut prices = Vec::new(heap);
-    for word in text.split(',') {
-        prices.push(word.parse::<u64>()?)?;
-    }
-    Ok(prices)
+// The numbers of a list.
+pub fn numbers_in<T: FromStr + Drop>(heap: Global, text: &str) -> anyhow::Result<Vec<T>>
+where
+    T::Err: Error,
+{
+    text.split(',')
+        .map(|word| -> anyhow::Result<T> { Ok(word.parse::<T>()?) })
+        .try_collect(heap)
 }

@@ -1,4 +1,4 @@
-use Rattle.std.proofs.Common.{◌≡◌, ℕ, min, ℤ, sym, refl, ap, ◌∙◌, subst, ap₂, arith}
+use Rattle.std.proofs.Common.{◌≡◌, ℕ, min, ℤ, sym, ap, ◌∙◌, subst, ap₂, arith}
 use borrow.Author.Differences.{ints}
 use Rattle.points.specs.Limits.{price_limit}
 use Rattle.points.specs.Tables.{Table}
@@ -9,7 +9,7 @@ use Rattle.auction.specs.Markets.{Market}
 use Rattle.bidding.specs.Searches.{HasTerms, TermsOf, terms_floor, limited_to, Finds}
 use Rattle.bidding.specs.declared.terms.Terms.{Terms}
 use Rattle.commands.specs.FirstBids.{Fresh, FreePrices}
-use Rattle.commands.proofs.bids.bid_line.Goals as goal
+use Rattle.commands.proofs.bids.bid_at_start.Goals as goal
 
 zero : (f : Face) (n : ℕ) → Cleared n f → (i : ℕ) → FreePrices (limited_to f i)
 zero f n c i k = ap (λ (x : ℕ). min x price_limit) (c.unshown i k)
@@ -21,39 +21,25 @@ floor_is : (t : Table) (x : Terms) → HasTerms t.size t.top 1 0 x → terms_flo
 floor_is t x h =
     ap₂ (λ (n c : ℕ). floor_of n c x.increment x.high) h.size h.top ∙ ap₂ (λ (e m : ℕ). floor_of t.size t.top e m) h.increment h.high
 
-pub returns-in-None : goal.returns-in-None
-returns-in-None g c =
+pub returns-in_err-offer : goal.returns-in_err-offer
+returns-in_err-offer g c =
     let t : Table = g.S.PairSource.table c.args.source.now in
     let f : Face = common_face c.new-board.result in
-    (refl, (limited_to f c.args.run, zero f 0 c.new-board.ensures c.args.run, λ m h. c.in-None.ensures.limited m (terms_of t c.args.terms.now c.requires m h)))
+    rw c.from_residual.ensures
+    (limited_to f c.args.run, zero f 0 c.new-board.ensures c.args.run, λ m h. c.in_err-offer.ensures.limited m (terms_of t c.args.terms.now c.requires m h))
 
-pub returns-in-None-seek : goal.returns-in-None-seek
-returns-in-None-seek g c =
-    let t : Table = g.S.PairSource.table c.args.source.now in
-    let f : Face = common_face c.new-board.result in (
-      refl,
-      (
-        limited_to f c.args.run,
-        zero f 0 c.new-board.ensures c.args.run,
-        λ m h k r p.
-            let none = c.in-None-seek.ensures.limited c.requires.size k in
-            let q : ◌≡◌ {A = ℕ} 0 1 = cc in absurd (omega arith),
-      ),
-    )
-
-pub returns-in-Some-seek : goal.returns-in-Some-seek
-returns-in-Some-seek g c =
+pub returns : goal.returns
+returns g c =
     let t : Table = g.S.PairSource.table c.args.source.now in
     let f : Face = common_face c.new-board.result in
     let x : Terms = c.args.terms.now in
     let q : ℕ → ℕ = limited_to f c.args.run in (
       q,
       record {
-        run = refl;
         free = zero f 0 c.new-board.ensures c.args.run;
-        bid = λ m h. c.in-Some.ensures.limited m (terms_of t x c.requires m h);
-        sought = c.in-Some-seek.best;
-        finds = subst (λ (z : ℤ). Finds t z q c.args.run c.in-Some-seek.best) (floor_is t x c.requires) (c.in-Some-seek.ensures.limited c.requires.size);
+        bid = λ m h. c.in_ok-offer.ensures.limited m (terms_of t x c.requires m h);
+        sought = c.in_ok-best.best;
+        finds = subst (λ (z : ℤ). Finds t z q c.args.run c.in_ok-best.best) (floor_is t x c.requires) (c.in_ok-best.ensures.limited c.requires.size);
         net = omega (arith, ints);
         second = omega (arith, ints);
       },
