@@ -1,5 +1,5 @@
 // Certificate files: the seats of all runs, and then the prices of all seats.
-ghost use Rattle.std.specs.Prelude.{◌≡◌, ℕ, ◌*◌, ◌/◌, length, IfOk, MatchResult};
+ghost use Rattle.std.specs.Prelude.{◌≡◌, ℕ, ◌+◌, ◌*◌, ◌/◌, take, drop, length, IfOk, MatchResult};
 ghost use Rattle.sheets.specs.declared.certificate_files.Unreadable.TheVariants.{Memory};
 ghost use Rattle.sheets.specs.CertificateFiles.{Reads, Holds, Unread};
 
@@ -43,6 +43,17 @@ pub(crate) fn read_list<T: Field>(heap: Global, bytes: &[u8]) -> Result<Vec<T>, 
         .collect(heap)
 }
 
+// The bytes of the seats of so many runs, and those of the prices.
+pub(crate) fn seats_and_prices(bytes: &[u8], size: usize) -> (&[u8], &[u8])
+    requires { length bytes.now ≡ 10 * size }
+    ensures front { result.0.now ≡ take (2 * size) bytes.now }
+    ensures back { result.1.now ≡ drop (2 * size) bytes.now }
+    ensures front_len { length result.0.now ≡ 2 * size }
+    ensures back_len { length result.1.now + 2 * size ≡ length bytes.now }
+{
+    bytes.split_at(2 * size)
+}
+
 // The certificate of a file.
 pub fn read_certificate(heap: Global, bytes: &[u8]) -> Result<Certificate, Unreadable>
     ensures { MatchResult result (λ c. Holds bytes.now c) (λ e. Unread bytes.now e) }
@@ -51,7 +62,7 @@ pub fn read_certificate(heap: Global, bytes: &[u8]) -> Result<Certificate, Unrea
         return Err(Unreadable::Length);
     }
     let size = bytes.len() / RUN_BYTES;
-    let (seats, prices) = bytes.split_at(2 * size);
+    let (seats, prices) = seats_and_prices(bytes, size);
     Ok(Certificate {
         seats: read_list(heap, seats)?,
         prices: read_list(heap, prices)?,

@@ -23,13 +23,13 @@ returns c =
     let bs = c.args.bytes.now in
     let n : ℕ = length bs / 10 in
     let long : length bs ≡ 10 * n = omega arith in
-    let front = c.split_at.result.0.now in
-    let back = c.split_at.result.1.now in
-    let halves : length front / 2 ≡ n = omega (arith, c.split_at.ensures.front_len) in
-    let eighths : length back / 8 ≡ n = omega (arith, c.split_at.ensures.back_len) in
+    let front = c.seats_and_prices.result.0.now in
+    let back = c.seats_and_prices.result.1.now in
+    let halves : length front / 2 ≡ n = omega (arith, c.seats_and_prices.ensures.front_len) in
+    let eighths : length back / 8 ≡ n = omega (arith, c.seats_and_prices.ensures.back_len) in
     record {
       size = n;
       long = long;
-      seats = same (λ i. le16 front (2 * i)) (λ i. le16 bs (2 * i)) (length front / 2) n (vec_items c.in_ok-read_list.field-0) c.in_ok-read_list.ensures halves (seat bs n long front c.split_at.ensures.front);
-      prices = same (λ k. le64 back (8 * k)) (λ k. le64 bs (2 * n + 8 * k)) (length back / 8) n (vec_items c.in_ok-read_list-2.field-0) c.in_ok-read_list-2.ensures eighths (price bs n long back c.split_at.ensures.back c.split_at.ensures.back_len);
+      seats = same (λ i. le16 front (2 * i)) (λ i. le16 bs (2 * i)) (length front / 2) n (vec_items c.in_ok-read_list.field-0) c.in_ok-read_list.ensures halves (seat bs n long front c.seats_and_prices.ensures.front);
+      prices = same (λ k. le64 back (8 * k)) (λ k. le64 bs (2 * n + 8 * k)) (length back / 8) n (vec_items c.in_ok-read_list-2.field-0) c.in_ok-read_list-2.ensures eighths (price bs n long back c.seats_and_prices.ensures.back c.seats_and_prices.ensures.back_len);
     }
