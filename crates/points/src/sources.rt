@@ -11,13 +11,13 @@ pub trait PairSource {
     // the points of every source of this kind lie from -TOP to TOP
     const TOP: u32;
 
-    ghost top: { ℕ };
+    ghost TOP: { ℕ };
 
     ghost table: { Self → Table };
 
     // The constant TOP, as a value that clauses can name.
     fn limit() -> u32
-        ensures { result ≡ top };
+        ensures { result ≡ TOP };
 
     // How many runs there are, and as many seats.
     fn size(&self) -> usize
@@ -27,9 +27,9 @@ pub trait PairSource {
     fn points(&self, run: usize, seat: usize) -> Option<i32>
         ensures { result ≡ (table self.now).points run seat };
 
-    ghost limits: { (1 ≤ top) × (top ≤ top_limit) };
+    ghost limits: { (1 ≤ TOP) × (TOP ≤ top_limit) };
 
-    ghost topped: { (s : Self) → (table s).top ≡ top };
+    ghost topped: { (s : Self) → (table s).top ≡ TOP };
 
     ghost lawful: { (s : Self) → Lawful (table s) };
 }

@@ -47,7 +47,7 @@ impl AnySheet {
 impl PairSource for AnySheet {
     const TOP: u32 = SHEET_TOP as u32;
 
-    ghost top = { sheet_top };
+    ghost TOP = { sheet_top };
 
     ghost table = { table_of };
 

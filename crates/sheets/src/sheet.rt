@@ -91,7 +91,7 @@ impl<K: Layout> Sheet<K> {
 impl<K: Layout> PairSource for Sheet<K> {
     const TOP: u32 = SHEET_TOP as u32;
 
-    ghost top = { sheet_top };
+    ghost TOP = { sheet_top };
 
     ghost table = { λ s. K.table s.bytes.items };
 
@@ -102,7 +102,7 @@ impl<K: Layout> PairSource for Sheet<K> {
     ghost lawful = { λ s. K.lawful s.bytes.items s.keeps };
 
     fn limit() -> u32 {
-        SHEET_TOP as u32
+        Self::TOP
     }
 
     fn size(&self) -> usize {
