@@ -110,11 +110,10 @@ impl<K: Layout> PairSource for Sheet<K> {
     }
 
     fn points(&self, run: usize, seat: usize) -> Option<i32> {
-        if run < self.size {
-            K::points(&self.bytes, self.size, run, seat)
-        } else {
-            None
+        if run >= self.size {
+            return None;
         }
+        K::points(&self.bytes, self.size, run, seat)
     }
 }
 

@@ -3,9 +3,13 @@ use std::alloc::Global;
 use std::error::Error;
 use std::str::FromStr;
 
-// The bytes of a text in hexadecimal; `-` stands for none.
+// The bytes of a text in hexadecimal, in small letters; `-` stands for none.
 pub fn bytes_in(heap: Global, text: &str) -> anyhow::Result<Vec<u8>> {
-    let digits: Vec<u32> = text.chars().filter_map(|c| c.to_digit(16)).collect(heap)?;
+    let digits: Vec<u32> = text
+        .chars()
+        .filter(|c| !c.is_ascii_uppercase())
+        .filter_map(|c| c.to_digit(16))
+        .collect(heap)?;
     let bytes = digits
         .chunks_exact(2)
         .map(|pair| ((pair[0] & 15) * 16 + (pair[1] & 15)) as u8);
