@@ -60,9 +60,7 @@ impl<'a, S: RowSource> Priced<'a, S> {
         }
     }
 
-    // Every allowed seat of a run that nets this on its own, from the lowest on. A function of its own even when built,
-    // since its loop is then faster.
-    #[inline(never)]
+    // Every allowed seat of a run that nets this on its own, from the lowest on.
     pub(crate) fn check_seats(&self, run: usize, held: i64) -> Result<(), Fault>
         ensures { MatchResult result
             (λ _. Passes (seat_checks (S.PairSource.table self.now.source.now) self.now.prices.now run held (S.PairSource.table self.now.source.now).size))
