@@ -7,6 +7,7 @@ use ledgers::ledger::Ledger;
 use points::sources::{PairSource, RowSource};
 use std::fmt::Display;
 
+// What the calls of one auction are made on.
 #[derive(Drop)]
 pub struct Play<'a, S, B> {
     rt: &'a HostRuntime,

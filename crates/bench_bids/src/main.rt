@@ -1,5 +1,5 @@
 #![tactic(auto)]
-// The benchmark `bench_bids`: how long a bid takes, from the search to its landing, over a dense sheet and a common board.
+// The benchmark `bench_bids`: how long a bid takes, from search to landing, over a dense sheet and a common board.
 use auction::limits::ALLOWANCE_LIMIT;
 use bench_tools::{refusal, time_often, wrong_call};
 use boards::board::PriceBoard;
@@ -46,7 +46,7 @@ fn play(sheet: &DenseSheet, increment: u64) -> Result<Phase, Fault> {
     let mut board = CommonBoard::new();
     board.clear(sheet.size());
     let mut ledger = Ledger::open(sheet.size(), &[increment, 1], ALLOWANCE_LIMIT)?;
-    // (a loop over the allowance, and not over the free runs: each bid frees or fills one, and the allowance ends it)
+    // as many steps as the allowance has bids: that number is what ends the loop, whatever runs are free
     for _ in 0..ALLOWANCE_LIMIT {
         let Some(run) = ledger.lowest_free() else {
             break;

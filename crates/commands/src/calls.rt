@@ -12,7 +12,7 @@ use sheets::any::AnySheet;
 use sheets::certificate_files::{Unreadable, read_certificate};
 use std::alloc::Global;
 
-// Why `check` has no total.
+// Why `check` has no total: an error either way, so no `Result` of the two would say more.
 #[derive(Clone, Copy, PartialEq, Eq, Debug)]
 pub enum Failure {
     // the sheet or the certificate is refused

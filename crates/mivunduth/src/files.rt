@@ -21,10 +21,8 @@ pub fn check_files<'a>(
 ) -> Result<(), Stop<'a>> {
     let bytes = read_file(rt, sheet)?;
     let plan = read_file(rt, certificate)?;
-    let line = check_sheet(rt.alloc(), bytes, &plan).map_err(|failure| Stop::unchecked(
-        certificate,
-        failure,
-    ))?;
+    let checked = check_sheet(rt.alloc(), bytes, &plan);
+    let line = checked.map_err(|failure| Stop::unchecked(certificate, failure))?;
     Ok(rt.println(line)?)
 }
 

@@ -15,7 +15,7 @@ pub trait PairSource {
 
     ghost table: { Self → Table };
 
-    // The constant TOP, as a value that clauses can name.
+    // The constant TOP.
     fn limit() -> u32
         ensures { result ≡ TOP };
 

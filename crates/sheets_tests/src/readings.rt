@@ -97,7 +97,8 @@ impl Reading<'_> {
         self.read_points(start, is_points)
     }
 
-    // The rows: each starts with the span after the row before, and the last ends with the last span.
+    // The rows, by number since their places come from it: each starts with the span after the row before, and the
+    // last ends with the last span.
     fn read_rows(self, size: u16, spans: u32) -> Result<(), Fault> {
         let spans = u64::from(spans);
         let mut end = 0;
@@ -123,7 +124,7 @@ impl Reading<'_> {
             .any(|at| self.word(at) == span && self.word(at + 4) != 0)
     }
 
-    // The spans, one after another; answers how many points they have.
+    // The spans, by number since their places come from it; answers how many points they have.
     fn read_spans(self, size: u16, spans: u32) -> Result<usize, Fault> {
         let mut before = 0;
         let mut covered = 0;
