@@ -1,15 +1,23 @@
 // Checks that every run is content with its seat.
-ghost use Rattle.std.specs.Prelude.{◌≡◌, ℕ, ◌<◌, length, pos, ◌+ℤ◌, MatchResult, int_le};
+ghost use Rattle.std.specs.Prelude.{◌≡◌, ℕ, ◌<◌, length, pos, ◌+ℤ◌, Some, MatchResult, int_le};
 ghost use Rattle.fault.specs.Checks.{Passes, Refuses, each};
+ghost use Rattle.fault.specs.declared.causes.Cause.TheVariants.{NotContent};
 ghost use Rattle.points.specs.Nets.{net};
 ghost use Rattle.points.specs.Plans.{value};
-ghost use Rattle.certificates.specs.Certificates.{seat_in, price_in, nets_at_most, price_checks, seat_checks, held_net, content_checks};
+ghost use Rattle.certificates.specs.Certificates.{seat_in, price_in, checker_fault, nets_at_most, price_checks, seat_checks, held_net, content_checks};
 
 use crate::prices::checker_fault;
 use fault::causes::Cause;
 use fault::faults::Fault;
 use points::nets::scaled_points;
 use points::sources::{PairSource, RowSource};
+
+// The fault that a run is not content with its seat, since this one nets more.
+pub(crate) fn not_content(run: usize, seat: usize) -> Fault
+    ensures { result ≡ checker_fault NotContent (Some run) (Some seat) }
+{
+    checker_fault(Cause::NotContent, Some(run), Some(seat))
+}
 
 // A source with a price for each of its seats, none over the limit.
 #[derive(Drop)]
@@ -52,18 +60,14 @@ impl<'a, S: RowSource> Priced<'a, S> {
         }
     }
 
-    // Every allowed seat of a run that nets this on its own, from the lowest on. A function of its own even when built,
-    // since its loop is then faster.
-    #[inline(never)]
+    // Every allowed seat of a run that nets this on its own, from the lowest on.
     pub(crate) fn check_seats(&self, run: usize, held: i64) -> Result<(), Fault>
         ensures { MatchResult result
             (λ _. Passes (seat_checks (S.PairSource.table self.now.source.now) self.now.prices.now run held (S.PairSource.table self.now.source.now).size))
             (λ f. Refuses (seat_checks (S.PairSource.table self.now.source.now) self.now.prices.now run held (S.PairSource.table self.now.source.now).size) f) }
     {
         for seat in self.source.seats(run) {
-            checker_fault(Cause::NotContent, Some(run), Some(seat)).unless(self.nets_at_most(
-                run, held, seat,
-            ))?;
+            not_content(run, seat).unless(self.nets_at_most(run, held, seat))?;
         }
         Ok(())
     }

@@ -53,3 +53,6 @@ scaled_fits n p h f =
     let low : neg_ℤ (pos 2147483648) ≤ℤ p = omega (arith, ints) in
     let high : p ≤ℤ pos 2147483648 = omega (arith, ints) in
     (omega (arith, ints, m, scaled_low n 2147483648 p low), omega (arith, ints, m, scaled_high n 2147483648 p high))
+
+-- how a product of points, or a net, fits 64 bits
+pub ruleset fits = (ints, scaled_fits)

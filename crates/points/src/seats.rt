@@ -1,10 +1,18 @@
 // The allowed seats of a run, one after the other.
-ghost use Rattle.std.specs.Prelude.{◌≡◌, ℕ, List};
+ghost use Rattle.std.specs.Prelude.{◌≡◌, ℕ, ◌+◌, ◌<◌, List};
 ghost use Rattle.std.specs.Iterator.{YieldsFirst, item_count};
 ghost use Rattle.points.specs.Seats.{seats_from};
 
 use crate::sources::{PairSource, RowSource};
 use std::marker::Model;
+
+// The seat after one that is not the last number.
+pub(crate) fn after(seat: usize) -> usize
+    requires { seat < 18446744073709551615 }
+    ensures { result ≡ seat + 1 }
+{
+    seat + 1
+}
 
 // The allowed seats of a run that are left, seen as the list of them.
 #[derive(Drop)]
@@ -33,7 +41,7 @@ impl<'a, S: RowSource> Iterator for AllowedSeats<'a, S> {
 
     fn next(&mut self) -> Option<usize> {
         let seat = self.source.next(self.run, self.from)?;
-        self.from = seat + 1;
+        self.from = after(seat);
         Some(seat)
     }
 }

@@ -7,8 +7,11 @@ use Rattle.points.proofs.nets.net_points.Goals as goal
 is : (c : goal.After-limited) → c.scaled_points.result ≡ scaled c.args.size c.args.points
 is c = c.scaled_points.ensures ∙ ap (scaled c.args.size) (omega (arith, ints))
 
-pub overflow_sub-result : goal.overflow_sub-result
-overflow_sub-result c = omega (arith, ints, is c, c.limited.ensures, scaled_fits c.args.size c.args.points (omega arith) c.ranges.points)
+pub less-requires : goal.less-requires
+less-requires c =
+    let f = scaled_fits c.args.size c.args.points (omega arith) c.ranges.points in
+    (omega (arith, ints, is c, f.0), omega (arith, ints, is c, f.1), omega (arith, c.limited.ensures))
 
 pub returns : goal.returns
-returns c = omega (arith, ints, is c, c.limited.ensures, scaled_fits c.args.size c.args.points (omega arith) c.ranges.points)
+returns c =
+    omega (arith, ints, is c.before, c.limited.ensures, c.less.ensures, scaled_fits c.args.size c.args.points (omega arith) c.ranges.points)

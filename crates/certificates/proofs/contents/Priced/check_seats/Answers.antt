@@ -26,7 +26,7 @@ returns-in_err-unless g c =
     let (above, below, here, gap, rest) = seats_first t c.args.run from seat c.next.new.self (sym left ∙ c.in-Some.ensures.steps) in
     let held : to_z w64 (of_z w64 c.args.held) ≡ c.args.held = omega (arith, ints) in
     let before : Passes (seat_checks t p.prices.now c.args.run (to_z w64 (of_z w64 c.args.held)) seat) = passed_gap t p.prices.now c.args.run (to_z w64 (of_z w64 c.args.held)) from seat gap passed in
-    rw (e.1, e.2, ← held) (seat, below, before, (sym c.nets_at_most.ensures ∙ c.in_err-unless.ensures.0, c.in_err-unless.ensures.1 ∙ c.checker_fault.ensures))
+    rw (e.1, e.2, ← held) (seat, below, before, (sym c.nets_at_most.ensures ∙ c.in_err-unless.ensures.0, c.in_err-unless.ensures.1 ∙ c.not_content.ensures))
 
 pub loop-seat-preserved : goal.loop-seat-preserved
 loop-seat-preserved g c =
