@@ -1,5 +1,5 @@
 -- The writes of a book are the market's events.
-use Rattle.std.proofs.Common.{◌≡◌, ℕ, suc, ◌+◌, ◌-◌, ◌<◌, ◌≤◌, ◌≢◌, List, ◌∷◌, length, get_or, take, drop, set, replicate, true, is_some as option_is_some, Some, None, Option, sym, refl, ap, ◌∙◌, subst, arith, rules, length-take, drop-cons, get_or-set_other, get_or-take, get_or-set_same}
+use Rattle.std.proofs.Common.{◌≡◌, ℕ, suc, ◌+◌, ◌-◌, ◌<◌, ◌≤◌, ◌≢◌, List, ◌∷◌, length, get_or, take, drop, set, true, is_some as option_is_some, Some, None, Option, sym, refl, ap, ◌∙◌, subst, arith, rules, length-take, drop-cons, get_or-set_other, get_or-take, get_or-set_same}
 use Rattle.std.proofs.lemmas.Bool.{eqb-true, ltb-true}
 use Rattle.fault.specs.Checks.{Passes}
 use Rattle.points.specs.Tables.{Table}
@@ -11,7 +11,7 @@ use Rattle.ledgers.specs.declared.ledger.Ledger.{Ledger}
 use Rattle.points.specs.Limits.{size_limit}
 use Rattle.auction.specs.Limits.{allowance_limit}
 use Rattle.ledgers.specs.Rules.{count}
-use Rattle.ledgers.specs.Books.{price_at, seat_at, holder_at, bid_at, increment_of, ladder_of, dropped, blank}
+use Rattle.ledgers.specs.Books.{price_at, seat_at, holder_at, bid_at, increment_of, ladder_of, dropped, blank, advanced}
 use Rattle.auction.specs.Changes.{BidSet}
 use Rattle.auction.specs.Events.{Dropped, Highest}
 use Rattle.ledgers.specs.Ledgers.{bid_of, view_of, unshown, Deliverable, Lands, Outbids, Recalls, Advances}
@@ -130,17 +130,6 @@ module _ {l : Ledger} {i : ℕ} {x : Bid} {j : ℕ} {z : List (Option ℕ)} (f :
       mark = refl;
     },
   )
-
--- the book once the next phase has begun, and h is the highest price
-abbrev pub advanced : Book → ℕ → Book
-advanced b h = record b {
-  phase = b.phase + 1;
-  high = h;
-  seats = replicate size_limit None;
-  holders = replicate size_limit None;
-  seated = 0;
-  counts = record b.counts { phase_accepted = 0 };
-}
 
 pub advances_view : (l : Ledger) (h : ℕ) → Passes (advance_checks l.book) → Highest l.book.conditions.size (price_at l.book) h → Advances l.book (advanced l.book h)
 advances_view l h p top =

@@ -10,7 +10,6 @@ ghost use Rattle.ledgers.specs.Refusals.{advance_checks};
 use crate::books::{Bid, Counts, free, seated_after, wide};
 use crate::ledger::Ledger;
 use bidding::sought::Offer;
-use points::limits::SIZE_LIMIT;
 
 // How an accepted bid came out.
 #[derive(Clone, Copy, PartialEq, Eq, Debug)]
@@ -93,11 +92,6 @@ impl Ledger {
         ensures { Advances self.old.book self.new.book }
     {
         let high = self.highest();
-        self.book.phase += 1;
-        self.book.high = high;
-        self.book.seats = [None; SIZE_LIMIT];
-        self.book.holders = [None; SIZE_LIMIT];
-        self.book.seated = 0;
-        self.book.counts.phase_accepted = 0;
+        self.book.begin_phase(high);
     }
 }
