@@ -89,10 +89,10 @@ recalls_view l i n o =
       },
     )
 
--- the book once run i's bid x has landed on seat j, with z the other runs' seats and n runs seated
-abbrev pub landed : Book → ℕ → Bid → ℕ → List (Option ℕ) → ℕ → Book
-landed b i x j z n = record b {
-  prices = record { prices = set b.prices.prices j x.price };
+-- the book once run i's bid x has landed on seat j, with z the other runs' seats, ps the prices and n runs seated
+abbrev pub landed : Book → ℕ → Bid → ℕ → List (Option ℕ) → List ℕ → ℕ → Book
+landed b i x j z ps n = record b {
+  prices = record { prices = ps };
   seats = set z i (Some x.seat);
   holders = set b.holders j (Some i);
   seated = n;
@@ -100,12 +100,12 @@ landed b i x j z n = record b {
   counts = record b.counts { accepted = b.counts.accepted + 1; phase_accepted = b.counts.phase_accepted + 1 };
 }
 
-module _ {l : Ledger} {i : ℕ} {x : Bid} {j : ℕ} {z : List (Option ℕ)} (f : Takes l i x j z) where
+module _ {l : Ledger} {i : ℕ} {x : Bid} {j : ℕ} {z : List (Option ℕ)} {ps : List ℕ} (f : Takes l i x j z ps) where
   -- run i holds no seat while its bid is out
   apart : (r : ℕ) → seat_at l.book r ≡ Some j → r ≢ i
   apart r h q = none_is_some j (sym (free_i f) ∙ ap (seat_at l.book) (sym q) ∙ h)
 
-  pub lands_view : (n : ℕ) (d : Option ℕ) → d ≡ holder_at l.book j → price_at l.book x.seat + increment_of l.book ≤ x.price → Lands l.book (landed l.book i x j z n) i j x.price d
+  pub lands_view : (n : ℕ) (d : Option ℕ) → d ≡ holder_at l.book j → price_at l.book x.seat + increment_of l.book ≤ x.price → Lands l.book (landed l.book i x j z ps n) i j x.price d
   lands_view n d q enough = (
     refl,
     λ t shown shown' e told. record {
@@ -116,8 +116,8 @@ module _ {l : Ledger} {i : ℕ} {x : Bid} {j : ℕ} {z : List (Option ℕ)} (f :
       counts = search rules;
       phase = search rules;
       accepted = refl;
-      raised = get_or-set_same l.book.prices.prices j x.price 0 (omega (arith, low_j f, l.sized.1, l.long.0));
-      prices = λ a h. get_or-set_other l.book.prices.prices j a x.price 0 h;
+      raised = ap (λ (ys : List ℕ). get_or ys j 0) f.prices ∙ get_or-set_same l.book.prices.prices j x.price 0 (omega (arith, low_j f, l.sized.1, l.long.0));
+      prices = λ a h. ap (λ (ys : List ℕ). get_or ys a 0) f.prices ∙ get_or-set_other l.book.prices.prices j a x.price 0 h;
       displaced = record {
         holds = λ r h. let s : seat_at l.book r ≡ Some j = on_seat l j r (sym q ∙ h) in (apart r s, s);
         named = λ r h s. q ∙ seat_on l r j s;
@@ -125,7 +125,7 @@ module _ {l : Ledger} {i : ℕ} {x : Bid} {j : ℕ} {z : List (Option ℕ)} (f :
       seated = seat_here f;
       freed = λ r h. let s : seat_at l.book r ≡ Some j = on_seat l j r (sym q ∙ h) in seat_other f r (apart r s) ∙ (freed_z f).displaced r s;
       kept = λ r h n. seat_other f r h ∙ (freed_z f).kept r (λ s. n (q ∙ seat_on l r j s));
-      bids = bid_none l.book (landed l.book i x j z n) shown shown' i (omega (arith, f.bid.low, l.sized.1, l.whole.2)) refl;
+      bids = bid_none l.book (landed l.book i x j z ps n) shown shown' i (omega (arith, f.bid.low, l.sized.1, l.whole.2)) refl;
       shown = told;
       mark = refl;
     },

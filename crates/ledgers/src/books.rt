@@ -1,5 +1,5 @@
 // The book of an auction, and how it is read.
-ghost use Rattle.std.specs.Prelude.{◌≡◌, ◌+◌, ◌<◌, ◌≤◌, IfSome};
+ghost use Rattle.std.specs.Prelude.{◌≡◌, ◌+◌, ◌<◌, ◌≤◌, IfSome, slice_set};
 ghost use Rattle.auction.specs.Limits.{phase_limit, allowance_limit};
 ghost use Rattle.points.specs.Limits.{size_limit};
 ghost use Rattle.ledgers.specs.Books.{price_at, seat_at, holder_at, bid_at, freed, seated_after, advanced, blank, FirstNone};
@@ -94,7 +94,24 @@ pub(crate) fn first_none(entries: &[Option<u16>]) -> Option<usize>
         .position(Option::is_none)
 }
 
+// A seat's price is the one given.
+pub(crate) fn raise(prices: &mut [u64; SIZE_LIMIT], seat: usize, price: u64)
+    requires { seat < size_limit }
+    ensures { prices.new ≡ slice_set prices.old seat price }
+{
+    prices[seat] = price;
+}
+
 impl Counts {
+    // One bid more is composed.
+    pub(crate) fn with_composed(self) -> Counts
+        requires { self.composed ≤ allowance_limit }
+        ensures { result ≡ record self { composed = self.composed + 1 } }
+    {
+        let composed = self.composed + 1;
+        Counts { composed, ..self }
+    }
+
     // One bid more was outbid.
     pub(crate) fn with_outbid(self) -> Counts
         requires { self.outbid ≤ allowance_limit }
