@@ -89,9 +89,7 @@ pub(crate) fn seated_after(seated: usize, displaced: Option<u16>) -> usize
 pub(crate) fn first_none(entries: &[Option<u16>]) -> Option<usize>
     ensures { FirstNone entries.now result }
 {
-    entries
-        .iter()
-        .position(Option::is_none)
+    entries.iter().position(Option::is_none)
 }
 
 // A seat's price is the one given.
