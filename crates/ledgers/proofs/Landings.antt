@@ -40,13 +40,14 @@ freed_seats l j (Some r) e = subst (λ (o : Option ℕ). Freed l j (freed l.book
   counted = ap (seated_after (count l.book.seats)) e ∙ sym (count_none l.book.seats r j (on_seat l j r e));
 })
 
--- run i's bid x takes seat j, and z are the seats of the runs once the run displaced, if any, is free
-pub record Takes (l : Ledger) (i : ℕ) (x : Bid) (j : ℕ) (z : List (Option ℕ)) : Type 0 where
+-- run i's bid x takes seat j, and z are the seats of the runs once the run displaced, if any, is free, and ps the prices once the bid's stands
+pub record Takes (l : Ledger) (i : ℕ) (x : Bid) (j : ℕ) (z : List (Option ℕ)) (ps : List ℕ) : Type 0 where
   pub bid : Deliverable l.book i x
   pub seat : j ≡ x.seat
   pub seats : z ≡ freed l.book.seats (holder_at l.book j)
+  pub prices : ps ≡ set l.book.prices.prices j x.price
 
-module _ {l : Ledger} {i : ℕ} {x : Bid} {j : ℕ} {z : List (Option ℕ)} (f : Takes l i x j z) where
+module _ {l : Ledger} {i : ℕ} {x : Bid} {j : ℕ} {z : List (Option ℕ)} {ps : List ℕ} (f : Takes l i x j z ps) where
   pub freed_z : Freed l j z
   freed_z = subst (Freed l j) (sym f.seats) (freed_seats l j (holder_at l.book j) refl)
 
@@ -124,8 +125,11 @@ module _ {l : Ledger} {i : ℕ} {x : Bid} {j : ℕ} {z : List (Option ℕ)} (f :
       go (yes q) = let w : get_or (set z i (Some x.seat)) r None ≡ Some j = ap (λ (v : ℕ). get_or (set z i (Some x.seat)) v None) q ∙ seat_here in let v : a ≡ j = cc in ap (λ (u : ℕ). get_or (set l.book.holders j (Some i)) u None) v ∙ holder_here ∙ ap Some (sym q)
       go (no h) = let s = before r a h e in holder_other a s.1 ∙ seat_on l r a s.0
 
-  pub priced_landed : UpTo (l.book.phase * phase_rise) (set l.book.prices.prices j x.price)
-  priced_landed = each_set 0 (λ a p. p ≤ l.book.phase * phase_rise) l.book.prices.prices j x.price l.priced (l.fit i x f.bid.out).1
+  pub long_landed : length ps ≡ length l.book.prices.prices
+  long_landed = ap (λ (ys : List ℕ). length ys) f.prices ∙ length-set l.book.prices.prices j x.price
+
+  pub priced_landed : UpTo (l.book.phase * phase_rise) ps
+  priced_landed = subst (UpTo (l.book.phase * phase_rise)) (sym f.prices) (each_set 0 (λ a p. p ≤ l.book.phase * phase_rise) l.book.prices.prices j x.price l.priced (l.fit i x f.bid.out).1)
 
   pub filled_landed : seated_after l.book.seated (holder_at l.book j) ≡ count (set z i (Some x.seat))
   filled_landed = ap (λ (n : ℕ). seated_after n (holder_at l.book j)) l.filled ∙ freed_z.counted ∙ sym (count_some z i x.seat (omega (arith, freed_z.long, f.bid.low, l.sized.1, l.whole.0)) z_i)

@@ -1,5 +1,5 @@
 -- The writes of a book are the market's events.
-use Rattle.std.proofs.Common.{◌≡◌, ℕ, suc, ◌+◌, ◌-◌, ◌<◌, ◌≤◌, ◌≢◌, List, ◌∷◌, length, get_or, take, drop, set, replicate, true, is_some as option_is_some, Some, None, Option, sym, refl, ap, ◌∙◌, subst, arith, rules, length-take, drop-cons, get_or-set_other, get_or-take, get_or-set_same}
+use Rattle.std.proofs.Common.{◌≡◌, ℕ, suc, ◌+◌, ◌-◌, ◌<◌, ◌≤◌, ◌≢◌, List, ◌∷◌, length, get_or, take, drop, set, true, is_some as option_is_some, Some, None, Option, sym, refl, ap, ◌∙◌, subst, arith, rules, length-take, drop-cons, get_or-set_other, get_or-take, get_or-set_same}
 use Rattle.std.proofs.lemmas.Bool.{eqb-true, ltb-true}
 use Rattle.fault.specs.Checks.{Passes}
 use Rattle.points.specs.Tables.{Table}
@@ -11,7 +11,7 @@ use Rattle.ledgers.specs.declared.ledger.Ledger.{Ledger}
 use Rattle.points.specs.Limits.{size_limit}
 use Rattle.auction.specs.Limits.{allowance_limit}
 use Rattle.ledgers.specs.Rules.{count}
-use Rattle.ledgers.specs.Books.{price_at, seat_at, holder_at, bid_at, increment_of, ladder_of, dropped, blank}
+use Rattle.ledgers.specs.Books.{price_at, seat_at, holder_at, bid_at, increment_of, ladder_of, dropped, blank, advanced}
 use Rattle.auction.specs.Changes.{BidSet}
 use Rattle.auction.specs.Events.{Dropped, Highest}
 use Rattle.ledgers.specs.Ledgers.{bid_of, view_of, unshown, Deliverable, Lands, Outbids, Recalls, Advances}
@@ -89,10 +89,10 @@ recalls_view l i n o =
       },
     )
 
--- the book once run i's bid x has landed on seat j, with z the other runs' seats and n runs seated
-abbrev pub landed : Book → ℕ → Bid → ℕ → List (Option ℕ) → ℕ → Book
-landed b i x j z n = record b {
-  prices = record { prices = set b.prices.prices j x.price };
+-- the book once run i's bid x has landed on seat j, with z the other runs' seats, ps the prices and n runs seated
+abbrev pub landed : Book → ℕ → Bid → ℕ → List (Option ℕ) → List ℕ → ℕ → Book
+landed b i x j z ps n = record b {
+  prices = record { prices = ps };
   seats = set z i (Some x.seat);
   holders = set b.holders j (Some i);
   seated = n;
@@ -100,12 +100,12 @@ landed b i x j z n = record b {
   counts = record b.counts { accepted = b.counts.accepted + 1; phase_accepted = b.counts.phase_accepted + 1 };
 }
 
-module _ {l : Ledger} {i : ℕ} {x : Bid} {j : ℕ} {z : List (Option ℕ)} (f : Takes l i x j z) where
+module _ {l : Ledger} {i : ℕ} {x : Bid} {j : ℕ} {z : List (Option ℕ)} {ps : List ℕ} (f : Takes l i x j z ps) where
   -- run i holds no seat while its bid is out
   apart : (r : ℕ) → seat_at l.book r ≡ Some j → r ≢ i
   apart r h q = none_is_some j (sym (free_i f) ∙ ap (seat_at l.book) (sym q) ∙ h)
 
-  pub lands_view : (n : ℕ) (d : Option ℕ) → d ≡ holder_at l.book j → price_at l.book x.seat + increment_of l.book ≤ x.price → Lands l.book (landed l.book i x j z n) i j x.price d
+  pub lands_view : (n : ℕ) (d : Option ℕ) → d ≡ holder_at l.book j → price_at l.book x.seat + increment_of l.book ≤ x.price → Lands l.book (landed l.book i x j z ps n) i j x.price d
   lands_view n d q enough = (
     refl,
     λ t shown shown' e told. record {
@@ -116,8 +116,8 @@ module _ {l : Ledger} {i : ℕ} {x : Bid} {j : ℕ} {z : List (Option ℕ)} (f :
       counts = search rules;
       phase = search rules;
       accepted = refl;
-      raised = get_or-set_same l.book.prices.prices j x.price 0 (omega (arith, low_j f, l.sized.1, l.long.0));
-      prices = λ a h. get_or-set_other l.book.prices.prices j a x.price 0 h;
+      raised = ap (λ (ys : List ℕ). get_or ys j 0) f.prices ∙ get_or-set_same l.book.prices.prices j x.price 0 (omega (arith, low_j f, l.sized.1, l.long.0));
+      prices = λ a h. ap (λ (ys : List ℕ). get_or ys a 0) f.prices ∙ get_or-set_other l.book.prices.prices j a x.price 0 h;
       displaced = record {
         holds = λ r h. let s : seat_at l.book r ≡ Some j = on_seat l j r (sym q ∙ h) in (apart r s, s);
         named = λ r h s. q ∙ seat_on l r j s;
@@ -125,22 +125,11 @@ module _ {l : Ledger} {i : ℕ} {x : Bid} {j : ℕ} {z : List (Option ℕ)} (f :
       seated = seat_here f;
       freed = λ r h. let s : seat_at l.book r ≡ Some j = on_seat l j r (sym q ∙ h) in seat_other f r (apart r s) ∙ (freed_z f).displaced r s;
       kept = λ r h n. seat_other f r h ∙ (freed_z f).kept r (λ s. n (q ∙ seat_on l r j s));
-      bids = bid_none l.book (landed l.book i x j z n) shown shown' i (omega (arith, f.bid.low, l.sized.1, l.whole.2)) refl;
+      bids = bid_none l.book (landed l.book i x j z ps n) shown shown' i (omega (arith, f.bid.low, l.sized.1, l.whole.2)) refl;
       shown = told;
       mark = refl;
     },
   )
-
--- the book once the next phase has begun, and h is the highest price
-abbrev pub advanced : Book → ℕ → Book
-advanced b h = record b {
-  phase = b.phase + 1;
-  high = h;
-  seats = replicate size_limit None;
-  holders = replicate size_limit None;
-  seated = 0;
-  counts = record b.counts { phase_accepted = 0 };
-}
 
 pub advances_view : (l : Ledger) (h : ℕ) → Passes (advance_checks l.book) → Highest l.book.conditions.size (price_at l.book) h → Advances l.book (advanced l.book h)
 advances_view l h p top =

@@ -1,5 +1,5 @@
 -- The parts of a book, and the book of an auction that starts.
-use Rattle.std.specs.Prelude.{◌≡◌, ℕ, ◌+◌, ◌-◌, List, take, replicate, Some, None, Option, slice_index, slice_index_or, slice_set}
+use Rattle.std.specs.Prelude.{◌≡◌, ℕ, ◌+◌, ◌-◌, ◌<◌, true, false, List, length, take, replicate, is_some, Some, None, Option, MatchOption, slice_index, slice_index_or, slice_set}
 use Rattle.points.specs.Limits.{size_limit}
 use Rattle.ledgers.specs.declared.books.Bid.{Bid}
 use Rattle.ledgers.specs.declared.books.Book.{Book}
@@ -36,6 +36,12 @@ abbrev pub seated_after : ℕ → Option ℕ → ℕ
 seated_after n None = n + 1
 seated_after n (Some r) = n
 
+-- the first place of a list that has no entry, or nothing where each has one
+abbrev pub FirstNone : List (Option ℕ) → Option ℕ → Type 0
+FirstNone xs o = MatchOption o
+    ((k : ℕ) → k < length xs → is_some (slice_index_or xs k None) ≡ true)
+    (λ i. (i < length xs) × (is_some (slice_index_or xs i None) ≡ false) × ((k : ℕ) → k < i → is_some (slice_index_or xs k None) ≡ true))
+
 -- one bid more is outbid or recalled, and no other count changes
 pub record Ends (c d : Counts) : Type 0 where
   pub composed : d.composed ≡ c.composed
@@ -46,6 +52,17 @@ pub record Ends (c d : Counts) : Type 0 where
 -- run i's bid is out no more, and is counted so
 abbrev pub dropped : Book → ℕ → Counts → Book
 dropped b i c = record b { bids = slice_set b.bids i None; counts = c }
+
+-- the book once the next phase has begun, and h is the highest price
+abbrev pub advanced : Book → ℕ → Book
+advanced b h = record b {
+  phase = b.phase + 1;
+  high = h;
+  seats = replicate size_limit None;
+  holders = replicate size_limit None;
+  seated = 0;
+  counts = record b.counts { phase_accepted = 0 };
+}
 
 -- the book of an auction that starts
 abbrev pub blank : Conditions → Book

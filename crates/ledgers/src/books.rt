@@ -1,7 +1,8 @@
 // The book of an auction, and how it is read.
-ghost use Rattle.std.specs.Prelude.{◌≡◌, ◌<◌, ◌≤◌, IfSome};
+ghost use Rattle.std.specs.Prelude.{◌≡◌, ◌+◌, ◌<◌, ◌≤◌, IfSome, slice_set};
+ghost use Rattle.auction.specs.Limits.{phase_limit, allowance_limit};
 ghost use Rattle.points.specs.Limits.{size_limit};
-ghost use Rattle.ledgers.specs.Books.{price_at, seat_at, holder_at, bid_at, freed, seated_after, blank};
+ghost use Rattle.ledgers.specs.Books.{price_at, seat_at, holder_at, bid_at, freed, seated_after, advanced, blank, FirstNone};
 
 use auction::limits::PHASE_LIMIT;
 use boards::rows::PriceRow;
@@ -84,7 +85,64 @@ pub(crate) fn seated_after(seated: usize, displaced: Option<u16>) -> usize
     }
 }
 
+// The first place that has no entry.
+pub(crate) fn first_none(entries: &[Option<u16>]) -> Option<usize>
+    ensures { FirstNone entries.now result }
+{
+    entries.iter().position(Option::is_none)
+}
+
+// A seat's price is the one given.
+pub(crate) fn raise(prices: &mut [u64; SIZE_LIMIT], seat: usize, price: u64)
+    requires { seat < size_limit }
+    ensures { prices.new ≡ slice_set prices.old seat price }
+{
+    prices[seat] = price;
+}
+
+impl Counts {
+    // One bid more is composed.
+    pub(crate) fn with_composed(self) -> Counts
+        requires { self.composed ≤ allowance_limit }
+        ensures { result ≡ record self { composed = self.composed + 1 } }
+    {
+        let composed = self.composed + 1;
+        Counts { composed, ..self }
+    }
+
+    // One bid more was outbid.
+    pub(crate) fn with_outbid(self) -> Counts
+        requires { self.outbid ≤ allowance_limit }
+        ensures { result ≡ record self { outbid = self.outbid + 1 } }
+    {
+        let outbid = self.outbid + 1;
+        Counts { outbid, ..self }
+    }
+
+    // One bid more was recalled.
+    pub(crate) fn with_recalled(self) -> Counts
+        requires { self.recalled ≤ allowance_limit }
+        ensures { result ≡ record self { recalled = self.recalled + 1 } }
+    {
+        let recalled = self.recalled + 1;
+        Counts { recalled, ..self }
+    }
+}
+
 impl Book {
+    // The next phase begins, and this is the highest price.
+    pub(crate) fn begin_phase(&mut self, high: u64)
+        requires { self.old.phase ≤ phase_limit }
+        ensures { self.new ≡ advanced self.old high }
+    {
+        self.phase += 1;
+        self.high = high;
+        self.seats = [None; SIZE_LIMIT];
+        self.holders = [None; SIZE_LIMIT];
+        self.seated = 0;
+        self.counts.phase_accepted = 0;
+    }
+
     // The price of a seat, or 0 past the last.
     pub(crate) fn price_at(&self, seat: usize) -> u64
         ensures { result ≡ price_at self.now seat }

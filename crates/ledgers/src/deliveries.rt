@@ -6,7 +6,7 @@ ghost use Rattle.ledgers.specs.Ledgers.{Deliverable, Recalls, Advances};
 ghost use Rattle.ledgers.specs.Deliveries.{Delivers};
 ghost use Rattle.ledgers.specs.Refusals.{deliver_checks, recall_checks, advance_checks};
 
-use crate::books::{Bid, Counts};
+use crate::books::Bid;
 use crate::ledger::Ledger;
 use crate::operations::Landing;
 use fault::faults::Fault;
@@ -35,9 +35,7 @@ impl Ledger {
     {
         let seat = usize::from(bid.seat);
         let price = self.book.price_at(seat);
-        let counts = self.book.counts;
-        let outbid = counts.outbid + 1;
-        self.drop_bid(run, Counts { outbid, ..counts });
+        self.drop_bid(run, self.book.counts.with_outbid());
         Delivery::Outbid { seat, price }
     }
 
@@ -61,9 +59,7 @@ impl Ledger {
             (λ f. Refuses (recall_checks self.old.book run) f × (self.new.book ≡ self.old.book)) }
     {
         self.check_recall(run)?;
-        let counts = self.book.counts;
-        let recalled = counts.recalled + 1;
-        self.drop_bid(run, Counts { recalled, ..counts });
+        self.drop_bid(run, self.book.counts.with_recalled());
         Ok(())
     }
 

@@ -7,10 +7,9 @@ ghost use Rattle.ledgers.specs.Books.{price_at, bid_at, increment_of, Ends, drop
 ghost use Rattle.ledgers.specs.Ledgers.{size_of, Ready, Deliverable, Composes, Marks, Lands, Advances};
 ghost use Rattle.ledgers.specs.Refusals.{advance_checks};
 
-use crate::books::{Bid, Counts, free, seated_after, wide};
+use crate::books::{Bid, Counts, free, raise, seated_after, wide};
 use crate::ledger::Ledger;
 use bidding::sought::Offer;
-use points::limits::SIZE_LIMIT;
 
 // How an accepted bid came out.
 #[derive(Clone, Copy, PartialEq, Eq, Debug)]
@@ -32,7 +31,7 @@ impl Ledger {
             seat: offer.seat as u16,
             price: offer.price,
         });
-        self.book.counts.composed += 1;
+        self.book.counts = self.book.counts.with_composed();
     }
 
     // A run is found to have no part in a full plan.
@@ -55,7 +54,7 @@ impl Ledger {
         self.book.seats[run] = Some(bid.seat);
         self.book.seated = seated_after(self.book.seated, displaced);
         self.book.holders[seat] = Some(run as u16);
-        self.book.prices.prices[seat] = bid.price;
+        raise(&mut self.book.prices.prices, seat, bid.price);
         self.book.bids[run] = None;
         self.book.counts.accepted += 1;
         self.book.counts.phase_accepted += 1;
@@ -93,11 +92,6 @@ impl Ledger {
         ensures { Advances self.old.book self.new.book }
     {
         let high = self.highest();
-        self.book.phase += 1;
-        self.book.high = high;
-        self.book.seats = [None; SIZE_LIMIT];
-        self.book.holders = [None; SIZE_LIMIT];
-        self.book.seated = 0;
-        self.book.counts.phase_accepted = 0;
+        self.book.begin_phase(high);
     }
 }

@@ -6,7 +6,7 @@ ghost use Rattle.ledgers.specs.Books.{price_at, seat_at, holder_at, increment_of
 ghost use Rattle.ledgers.specs.Ledgers.{LowestFree};
 ghost use Rattle.ledgers.specs.Refusals.{run_checks, seat_checks};
 
-use crate::books::Counts;
+use crate::books::{Counts, first_none};
 use crate::ledger::Ledger;
 use fault::faults::Fault;
 
@@ -82,8 +82,6 @@ impl Ledger {
     pub fn lowest_free(&self) -> Option<usize>
         ensures { LowestFree self.now.book result }
     {
-        self.book.seats[..self.size()]
-            .iter()
-            .position(Option::is_none)
+        first_none(&self.book.seats[..self.size()])
     }
 }

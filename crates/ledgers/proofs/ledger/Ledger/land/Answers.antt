@@ -1,7 +1,7 @@
-use Rattle.std.proofs.Common.{◌∙◌, arith, length-set, rules}
+use Rattle.std.proofs.Common.{◌∙◌, arith, rules}
 use Rattle.ledgers.proofs.Bids.{fit_none}
 use Rattle.ledgers.proofs.Entries.{count_most, count_none}
-use Rattle.ledgers.proofs.Landings.{Takes, waiting_landed, runs_landed, places_landed, held_landed, holding_landed, priced_landed, filled_landed}
+use Rattle.ledgers.proofs.Landings.{Takes, waiting_landed, runs_landed, places_landed, held_landed, holding_landed, long_landed, priced_landed, filled_landed}
 use Rattle.ledgers.proofs.Views.{lands_view}
 use Rattle.ledgers.proofs.ledger.Ledger.land.Goals as goal
 
@@ -13,10 +13,10 @@ seated_after-self-requires c =
 pub invariant_of-self : goal.invariant_of-self
 invariant_of-self c =
     let s = c.args.self.now in
-    let f : Takes s c.args.run c.args.bid c.from-seat.result c.free.new.seats = record { bid = c.requires.bid; seat = c.from-seat.ensures; seats = c.free.ensures } in
+    let f : Takes s c.args.run c.args.bid c.from-seat.result c.free.new.seats c.raise.new.prices = record { bid = c.requires.bid; seat = c.from-seat.ensures; seats = c.free.ensures; prices = c.raise.ensures } in
     record {
       whole = search rules;
-      long = (length-set s.book.prices.prices _ c.args.bid.price ∙ s.long.0, s.long.1);
+      long = (long_landed f ∙ s.long.0, s.long.1);
       sized = s.sized;
       phased = s.phased;
       small = s.small;
@@ -36,5 +36,5 @@ invariant_of-self c =
 pub returns : goal.returns
 returns c =
     let s = c.args.self.now in
-    let f : Takes s c.args.run c.args.bid c.from-seat.result c.free.new.seats = record { bid = c.requires.bid; seat = c.from-seat.ensures; seats = c.free.ensures } in
+    let f : Takes s c.args.run c.args.bid c.from-seat.result c.free.new.seats c.raise.new.prices = record { bid = c.requires.bid; seat = c.from-seat.ensures; seats = c.free.ensures; prices = c.raise.ensures } in
     lands_view f c.seated_after-self.result _ c.wide.ensures c.requires.enough
