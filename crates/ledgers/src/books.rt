@@ -100,6 +100,7 @@ pub(crate) fn raise(prices: &mut [u64; SIZE_LIMIT], seat: usize, price: u64)
     prices[seat] = price;
 }
 
+// One function for each count that rises: to hand over which count it is takes more words than the sum.
 impl Counts {
     // One bid more is composed.
     pub(crate) fn with_composed(self) -> Counts
