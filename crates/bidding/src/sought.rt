@@ -9,7 +9,7 @@ pub struct Sought {
     pub second: i64,
 }
 
-// The seat and the price of a bid.
+// The seat and the price of a bid. No `Telling` of a board, though of the same fields: a bid may never be accepted.
 #[derive(Clone, Copy, PartialEq, Eq, Debug)]
 pub struct Offer {
     pub seat: usize,

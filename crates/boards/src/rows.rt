@@ -6,6 +6,7 @@ ghost use Rattle.boards.specs.Rows.{at};
 // The most seats, and runs, that a board has.
 pub const SEAT_LIMIT: usize = 256;
 
+// A price for each seat that a board may have: an array, since no call of a board takes memory.
 #[derive(Clone, Copy)]
 pub struct PriceRow {
     pub prices: [u64; SEAT_LIMIT],

@@ -22,6 +22,7 @@ pub struct CommonBoard {
 }
 
 // A board of eight sites, each with a copy of the told prices that only a carry or a settle brings up.
+// The copies are an array, since no call of a board takes memory.
 #[derive(Drop)]
 pub struct SiteBoard {
     pub(crate) told: PriceList,

@@ -20,6 +20,7 @@ pub(crate) fn not_content(run: usize, seat: usize) -> Fault
 }
 
 // A source with a price for each of its seats, none over the limit.
+// That a seat has a price is asked of each call: a fact about its argument, which no field can hold.
 #[derive(Drop)]
 pub(crate) struct Priced<'a, S: RowSource> {
     pub(crate) source: &'a S,

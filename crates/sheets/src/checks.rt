@@ -23,7 +23,7 @@ pub(crate) fn check_header(bytes: &[u8], kind: Kind) -> Result<Header, Fault>
         (λ f. Refuses (header_checks (code kind) bytes.now) f) }
 {
     let header = read_header(bytes)?;
-    sheet_fault(Cause::Kind, 2).unless(header.kind == kind.code())?;
+    sheet_fault(Cause::Kind, 2).unless(header.kind == u16::from(kind))?;
     sheet_fault(Cause::Size, 0).unless(1 <= header.size && usize::from(header.size) <= SIZE_LIMIT)?;
     Ok(header)
 }

@@ -9,6 +9,7 @@ use crate::fields::Field;
 use crate::spans::{Row, Span, span_at};
 
 // The bytes of a sparse sheet, and how many runs and how many spans it has.
+// That a run is below the size is asked of each call: a fact about its argument, which no field can hold.
 #[derive(Clone, Copy)]
 pub(crate) struct Frame<'a> {
     pub bytes: &'a [u8],

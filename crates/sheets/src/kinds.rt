@@ -13,14 +13,16 @@ pub enum Kind {
     Sparse = 1,
 }
 
-impl Kind {
-    // The code of a kind.
-    pub fn code(self) -> u16
-        ensures { result ≡ code self }
-    {
-        self as u16
-    }
+// The code of a kind.
+impl From<Kind> for u16 {
+    ghost from_gives = { λ k n. n ≡ code k };
 
+    fn from(kind: Kind) -> u16 {
+        kind as u16
+    }
+}
+
+impl Kind {
     // The kind of the sheet that bytes should be: sparse where their header names that kind, and else dense.
     pub fn named(bytes: &[u8]) -> Kind
         ensures { result ≡ kind_named bytes.now }
@@ -48,5 +50,5 @@ impl fmt::Display for Kind {
 pub fn names_sparse(bytes: &[u8]) -> bool
     ensures { result ≡ names_sparse bytes.now }
 {
-    4 <= bytes.len() && u16::at(bytes, 2) == Kind::Sparse.code()
+    4 <= bytes.len() && u16::at(bytes, 2) == u16::from(Kind::Sparse)
 }

@@ -13,6 +13,7 @@ use std::alloc::Global;
 use std::marker::PhantomData;
 
 // How sheets of one kind lay their table out as bytes.
+// Bytes and size stay two parameters: they are the two fields of a sheet, and a struct of both would be a second sheet.
 pub(crate) trait Layout {
     ghost checks: { List ℕ → Checks };
 
