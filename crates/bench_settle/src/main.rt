@@ -14,6 +14,7 @@ fn tell_one(board: &mut SiteBoard, turn: u64) {
 }
 
 // Times the work of one turn, repeated; answers what run 9 is then shown at seat 1.
+// (Not `time_often` of the other benchmarks: this work changes a board in place and is never refused.)
 fn time<F: Fn(&mut SiteBoard, u64)>(
     rt: &HostRuntime,
     what: &str,
@@ -35,13 +36,7 @@ fn time<F: Fn(&mut SiteBoard, u64)>(
 fn run(rt: &HostRuntime, repeats: u64) -> anyhow::Result<()> {
     let mut board = SiteBoard::new();
     board.clear(SEATS);
-    let alone = time(
-        rt,
-        "a telling",
-        &mut board,
-        repeats,
-        tell_one,
-    )?;
+    let alone = time(rt, "a telling", &mut board, repeats, tell_one)?;
     board.clear(SEATS);
     let after_one = time(
         rt,

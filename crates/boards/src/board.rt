@@ -39,7 +39,7 @@ pub trait PriceBoard {
     fn told(&self, seat: usize) -> u64
         ensures { result ≡ (face self.now).told seat };
 
-    // Brings prices closer to being shown, as the kind of board has it.
+    // Brings prices closer to being shown; r names a site, or says how many tellings, as the kind of board has it.
     fn carry(&mut self, r: usize)
         ensures own { step (carries r) self.old self.new }
         ensures does { sound self.old → Carried (face self.old) (face self.new) }

@@ -57,6 +57,7 @@ impl SiteCopy {
 }
 
 // Notes at every site that a price was told at a seat.
+// (This and `bring_all_up` are two loops of one line: one function for both would take the line as a closure.)
 pub(crate) fn mark_all(copies: &mut [SiteCopy; SITES], seat: usize)
     requires { seat < seat_limit }
     ensures { (c : ℕ) → c < site_count → Marked seat (copy_at copies.old c) (copy_at copies.new c) }
@@ -89,7 +90,7 @@ fn copy_span(row: &mut PriceRow, told: &PriceRow, span: Span)
     ensures up { (k : ℕ) → Covers (Some span) k → at row.new k ≡ at told.now k }
     ensures kept { (k : ℕ) → Misses (Some span) k → at row.new k ≡ at row.old k }
 {
-    // `copy_from_slice` doubles a telling and a settle, 44 ns in place of 22: most spans are of one seat
+    // not `copy_from_slice`: with it a telling and a settle take 44 ns, and with this loop 22 ns; most spans are of one seat
     for k in span.from..span.to {
         row.prices[k] = told.prices[k];
     }

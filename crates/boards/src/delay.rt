@@ -40,10 +40,7 @@ impl<B: PriceBoard> Delay<B> {
     fn latest(&self, seat: usize) -> u64
         ensures { result ≡ newest self.now.held.items seat ((B.PriceBoard.face self.now.below).told seat) }
     {
-        match newest_held(&self.held, seat) {
-            Some(price) => price,
-            None => self.below.told(seat),
-        }
+        newest_held(&self.held, seat).unwrap_or_else(|| self.below.told(seat))
     }
 
     // Whether the layer takes a telling, by its own told price and not by that of the board below.

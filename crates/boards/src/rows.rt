@@ -3,7 +3,7 @@ ghost use Rattle.std.specs.Prelude.{◌≡◌, ℕ, ◌<◌, ◌≤◌, ◌≢�
 ghost use Rattle.boards.specs.Limits.{seat_limit};
 ghost use Rattle.boards.specs.Rows.{at};
 
-// The most seats, and runs, that a board has.
+// The most seats, and runs, that a board has: a limit of its own, since boards know nothing of tables.
 pub const SEAT_LIMIT: usize = 256;
 
 // A price for each seat that a board may have: an array, since no call of a board takes memory.

@@ -7,7 +7,8 @@ use crate::copies::{SITES, SiteCopy};
 use crate::rows::PriceRow;
 use crate::tellings::Telling;
 
-// The told prices of a board, and how many of its row's seats are seats of the board.
+// The told prices of a board, and how many of its row's seats are seats of the board: a row of the greatest size, since no
+// call of a board takes memory.
 #[derive(Clone, Copy)]
 pub(crate) struct PriceList {
     pub(crate) size: usize,

@@ -19,8 +19,8 @@ pub fn check<S: RowSource>(source: &S, seats: &[u16], prices: &[u64]) -> Result<
     check_rules(source, seats, prices)
 }
 
-// Every rule of a certificate, in order. Apart from `check`, so that what its exits show is turned once, and not five
-// times.
+// Every rule of a certificate, in order. Apart from `check`, so that its proof turns rules into acceptance once, and not at
+// each `?`.
 pub(crate) fn check_rules<S: RowSource>(
     source: &S,
     seats: &[u16],

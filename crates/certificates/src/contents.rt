@@ -54,7 +54,7 @@ impl<'a, S: RowSource> Priced<'a, S> {
         requires { seat < length self.now.prices.now }
         ensures { result ≡ nets_at_most (S.PairSource.table self.now.source.now).size held ((S.PairSource.table self.now.source.now).points run seat) (price_in self.now.prices.now seat) }
     {
-        // not `is_none_or`: nothing is known of what a closure that captures `self` answers
+        // not `is_none_or`: its closure asks that the seat has a price, and what it answers was not proved in two forms
         match self.source.points(run, seat) {
             None => true,
             Some(points) => self.is_content(held, points, seat),

@@ -19,7 +19,7 @@ pub(crate) fn checker_fault(cause: Cause, run: Option<usize>, seat: Option<usize
 pub(crate) fn check_size(size: usize, seats: usize, prices: usize) -> Result<u16, Fault>
     ensures { MatchResult result (λ n. Passes (size_checks size seats prices) × (n ≡ size)) (λ f. Refuses (size_checks size seats prices) f) }
 {
-    checker_fault(Cause::Size, None, None).unless(1 <= size && size <= SIZE_LIMIT)?;
+    checker_fault(Cause::Size, None, None).unless((1..=SIZE_LIMIT).contains(&size))?;
     checker_fault(Cause::Buffer, None, None).unless(seats == size && prices == size)?;
     Ok(size as u16)
 }

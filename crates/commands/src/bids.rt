@@ -11,7 +11,6 @@ use boards::states::CommonBoard;
 use fault::causes::Cause;
 use fault::faults::Fault;
 use fault::layers::Layer;
-use points::limits::SIZE_LIMIT;
 use points::sources::{PairSource, RowSource};
 use sheets::any::AnySheet;
 
@@ -29,8 +28,8 @@ pub(crate) fn first_bid<S: RowSource>(source: &S, run: usize) -> Result<BidLine,
     let size = source.size();
     Fault::in_phase(Layer::Exchange, Cause::Number, 0, Some(run), None).unless(run < size)?;
     let refused = Fault::in_phase(Layer::Exchange, Cause::Size, 0, None, None);
-    refused.unless(size <= SIZE_LIMIT)?;
-    let terms = Terms::new(size as u16, S::limit(), 1, 0).ok_or(refused)?;
+    let size = u16::try_from(size).map_err(|_| refused)?;
+    let terms = Terms::new(size, S::limit(), 1, 0).ok_or(refused)?;
     Ok(BidLine {
         run,
         bid: bid_at_start(source, &terms, run),

@@ -64,11 +64,6 @@ count_some (Some y ∷ xs) zero x h e = none_is_some y (sym e)
 count_some (None ∷ xs) (suc i) x h e = count_some xs i x (le_of_suc-le-suc h) e
 count_some (Some y ∷ xs) (suc i) x h e = ap (λ n. n + 1) (count_some xs i x (le_of_suc-le-suc h) e)
 
--- no entries
-pub count_empty : (A : Type 0) (n : ℕ) → count {A = A} (replicate n None) ≡ 0
-count_empty A zero = refl
-count_empty A (suc n) = count_empty A n
-
 -- a list with entries only below n has at most n of them
 pub count_most : {A : Type 0} (xs : List (Option A)) (n : ℕ) → ((a : ℕ) (x : A) → get_or xs a None ≡ Some x → a < n) → count xs ≤ n
 count_most [] n h = omega arith

@@ -20,7 +20,7 @@ pub struct Bid {
 pub struct Conditions {
     // how many runs there are, and as many seats
     pub size: usize,
-    // the increments, of which the first `phases` count; an `ArrayVec` is not `Copy`, and a book is: no call allocates
+    // the increments, of which the first `phases` count: a `Vec` allocates, and an `ArrayVec` is not `Copy`, as a book is
     pub increments: [u64; PHASE_LIMIT],
     pub phases: usize,
     // how many bids may be composed
@@ -38,7 +38,8 @@ pub struct Counts {
     pub phase_accepted: u64,
 }
 
-// Each rule of a book is about one or two whole lists, so they are lists side by side, and no list of structs.
+// The state of an auction. Each rule of a book is about one or two whole lists, so they stand side by side, and are no list
+// of structs; and they are arrays of the greatest size, since no call takes memory.
 #[derive(Clone, Copy)]
 pub struct Book {
     pub conditions: Conditions,
@@ -53,6 +54,7 @@ pub struct Book {
     // how many runs hold a seat
     pub seated: usize,
     pub bids: [Option<Bid>; SIZE_LIMIT],
+    // a run found to have no part in a full plan
     pub mark: Option<u16>,
     pub counts: Counts,
 }
@@ -151,6 +153,7 @@ impl Book {
         self.prices.prices.get(seat).copied().unwrap_or(0)
     }
 
+    // (these three read a list each, by one line of the library's methods)
     // The seat that a run holds.
     pub(crate) fn seat_at(&self, run: usize) -> Option<usize>
         ensures { result ≡ seat_at self.now run }

@@ -6,6 +6,7 @@ ghost use Rattle.ledgers.specs.Rules.{phase_rise, count, BidsFit, Waiting, Below
 
 use crate::books::Book;
 
+// The book of a started auction, and the rules that hold between its events.
 #[derive(Clone, Copy)]
 pub struct Ledger {
     pub book: Book,

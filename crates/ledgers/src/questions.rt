@@ -11,7 +11,7 @@ use crate::ledger::Ledger;
 use fault::faults::Fault;
 
 impl Ledger {
-    // The price of a seat.
+    // The price of a seat. (This and `holder` are two questions about a seat, with answers of different types.)
     pub fn price(&self, seat: usize) -> Result<u64, Fault>
         ensures { MatchResult result (λ p. Passes (seat_checks self.now.book seat) × (p ≡ price_at self.now.book seat)) (λ f. Refuses (seat_checks self.now.book seat) f) }
     {

@@ -15,7 +15,7 @@ pub trait PairSource {
 
     ghost table: { Self → Table };
 
-    // The constant TOP.
+    // The constant TOP, for callers to whom the kind of source is a type parameter.
     fn limit() -> u32
         ensures { result ≡ TOP };
 

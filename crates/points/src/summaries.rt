@@ -1,6 +1,6 @@
 // A summary of a table of points.
 
-// The least and the greatest of some points.
+// The least and the greatest of some points. (A `RangeInclusive` is not `Copy`.)
 #[derive(Clone, Copy, PartialEq, Eq, Debug)]
 pub struct Range {
     pub least: i32,

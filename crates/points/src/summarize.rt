@@ -49,13 +49,9 @@ pub(crate) fn note_row<S: RowSource>(source: &S, run: usize, before: Summary) ->
 pub fn summarize<S: RowSource>(source: &S) -> Summary
     ensures { result ≡ summary_of (S.PairSource.table source.now) }
 {
-    let mut seen = Summary {
+    let none = Summary {
         allowed: 0,
         range: None,
     };
-    // not a `fold`: no rule leads from a fold over the runs to the recursion that the clause states
-    for run in 0..source.size() {
-        seen = note_row(source, run, seen);
-    }
-    seen
+    (0..source.size()).fold(none, |seen, run| note_row(source, run, seen))
 }

@@ -13,7 +13,7 @@ use crate::sparse::SparseSheet;
 use fault::faults::Fault;
 use points::sources::{PairSource, RowSource};
 
-// A sheet of either kind.
+// A sheet of either kind: both are sheets, so neither is a `Result`'s error.
 #[derive(Drop)]
 pub enum AnySheet {
     Dense(DenseSheet),
@@ -61,6 +61,7 @@ impl PairSource for AnySheet {
         Self::TOP
     }
 
+    // (each question matches by itself: a `&dyn` of either sheet would be handed out, which the gate refuses)
     fn size(&self) -> usize {
         match self {
             AnySheet::Dense(sheet) => sheet.size(),

@@ -24,7 +24,7 @@ pub(crate) fn check_header(bytes: &[u8], kind: Kind) -> Result<Header, Fault>
 {
     let header = read_header(bytes)?;
     sheet_fault(Cause::Kind, 2).unless(header.kind == u16::from(kind))?;
-    sheet_fault(Cause::Size, 0).unless(1 <= header.size && usize::from(header.size) <= SIZE_LIMIT)?;
+    sheet_fault(Cause::Size, 0).unless((1..=SIZE_LIMIT).contains(&usize::from(header.size)))?;
     Ok(header)
 }
 
@@ -35,7 +35,7 @@ pub(crate) fn in_range(word: u32) -> bool
     (-SHEET_TOP..=SHEET_TOP).contains(&word.cast_signed())
 }
 
-// Which words may stand among the points of a kind of sheet.
+// Which words may stand among the points of a kind of sheet: a trait and no closure, so that clauses can name it.
 pub(crate) trait Words {
     ghost takes: { ℕ → Bool };
 

@@ -43,7 +43,7 @@ impl Layout for Dense {
     }
 
     fn next(bytes: &[u8], size: usize, run: usize, from: usize) -> Option<usize> {
-        // by `find` over the seats a check of a 256 x 256 sheet takes 170 µs, and so 125 µs
+        // not `find`: with it a check of a certificate over 256 runs takes 170 us, and with this loop 125 us
         for seat in from..size {
             if Dense::points(bytes, size, run, seat).is_some() {
                 return Some(seat);

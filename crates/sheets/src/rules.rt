@@ -61,7 +61,7 @@ impl Frame<'_> {
     pub(crate) fn check_rows(&self) -> Result<(), Fault>
         ensures { MatchResult result (λ _. Passes (sparse_rows self.now.bytes.now)) (λ f. Refuses (sparse_rows self.now.bytes.now) f) }
     {
-        // a `for`, since `try_fold` does not say which end it hands to each row
+        // a `for`: `try_fold` saves no line here, and asks for a second induction, over its turns
         let mut end = 0;
         for run in 0..self.size {
             end = self.check_row(run, end)?;
@@ -100,7 +100,7 @@ impl Frame<'_> {
     {
         let row = self.row(run);
         let first = row.from as usize;
-        // a `for`, since `try_fold` does not say which end and which points it hands to each span
+        // a `for`: `try_fold` asks, before the first turn, what the turns before each one come to
         let mut end = 0;
         let mut covered = covered;
         for place in 0..row.len as usize {
@@ -118,7 +118,7 @@ impl Frame<'_> {
             (λ c. let bs = self.now.bytes.now in Passes (sparse_spans bs) × (c ≡ covered_before bs (spans_in bs)) × (c ≤ 16777216))
             (λ f. Refuses (sparse_spans self.now.bytes.now) f) }
     {
-        // a `for`, since `try_fold` does not say which points it hands to each row
+        // a `for`, for the same reason
         let mut covered = 0;
         for run in 0..self.size {
             covered = self.check_row_spans(run, covered)?;

@@ -14,7 +14,8 @@ pub(crate) struct Row {
 }
 
 impl Row {
-    // The span after the last one of the row.
+    // The span after the last one of the row. (The fields are as wide as in the file, so the sum is in range; no `From` leads
+    // from u32 to usize.)
     pub(crate) fn end(self) -> usize
         ensures { result ≡ self.from + self.len }
     {

@@ -56,14 +56,9 @@ impl<'a> SparseBytes<'a> {
         requires { span.from ≤ seat → points_at self.now.frame.bytes.now + 4 * (span.first + (seat - span.from)) + 4 ≤ length self.now.frame.bytes.now }
         ensures { result ≡ point_by self.now.frame.bytes.now span seat }
     {
-        let bytes = self.frame.bytes;
-        let from = usize::from(span.from);
-        if from <= seat {
-            let point = span.first as usize + (seat - from);
-            Some(u32::at(bytes, self.frame.points_at() + 4 * point).cast_signed())
-        } else {
-            None
-        }
+        let past = seat.checked_sub(usize::from(span.from))?;
+        let point = span.first as usize + past;
+        Some(u32::at(self.frame.bytes, self.frame.points_at() + 4 * point).cast_signed())
     }
 
     // The points of a run on a seat, or nothing where no span of the run covers the seat.

@@ -69,13 +69,9 @@ impl Reading<'_> {
     fn read_points<F: Fn(u32) -> bool>(self, from: usize, is_taken: F) -> Result<(), Fault>
         requires { F.IsAlwaysCallable is_taken }
     {
-        let wrong = (from..self.0.len())
+        (from..self.0.len())
             .step_by(4)
-            .find(|at| !is_taken(self.word(*at)));
-        match wrong {
-            None => Ok(()),
-            Some(at) => must(false, Cause::Points, at),
-        }
+            .try_for_each(|at| must(is_taken(self.word(at)), Cause::Points, at))
     }
 
     fn read_dense(self) -> Result<(), Fault> {

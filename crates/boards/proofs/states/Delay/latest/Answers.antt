@@ -1,9 +1,13 @@
-use Rattle.std.proofs.Common.{None, Some, sym, ◌∙◌}
+use Rattle.std.proofs.Common.{rules, ◌≡◌, ℕ, List, Option, Some, None, MatchOption, find, reverse, ◌==◌, ◌∙◌}
+use Rattle.std.specs.Option.{option_map}
+use Rattle.boards.specs.declared.tellings.Telling.{Telling}
+use Rattle.boards.specs.Tellings.{newest}
 use Rattle.boards.specs.Held.{newest_is}
 use Rattle.boards.proofs.states.Delay.latest.Goals as goal
 
-pub returns-in-Some : goal.returns-in-Some
-returns-in-Some g c = newest_is _ _ _ _ (Some c.in-Some.price) c.deref.ensures.value (sym c.in-Some.is ∙ c.newest_held.ensures)
+latest : (ts us : List Telling) (k x r : ℕ) (found : Option ℕ) → us ≡ ts → found ≡ option_map (λ t. t.price) (find (λ t. k == t.seat) (reverse us)) → MatchOption found (r ≡ x) (λ y. r ≡ y) → r ≡ newest ts k x
+latest ts us k x r None same is m = m ∙ newest_is ts us k x None same is
+latest ts us k x r (Some y) same is m = m ∙ newest_is ts us k x (Some y) same is
 
-pub returns-in-None : goal.returns-in-None
-returns-in-None g c = c.told.ensures ∙ newest_is _ _ _ _ None c.deref.ensures.value (sym c.in-None.is ∙ c.newest_held.ensures)
+pub returns : goal.returns
+returns g c = latest _ _ _ _ _ c.newest_held.result c.deref.ensures.value c.newest_held.ensures (search rules)
