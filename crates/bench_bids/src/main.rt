@@ -1,7 +1,7 @@
 #![tactic(auto)]
 // The benchmark `bench_bids`: how long a bid takes, from search to landing, over a dense sheet and a common board.
 use auction::limits::ALLOWANCE_LIMIT;
-use bench_tools::{refusal, time_often, wrong_call};
+use bench_tools::{sheet_of, time_often, wrong_call};
 use boards::board::PriceBoard;
 use boards::states::CommonBoard;
 use fault::faults::Fault;
@@ -76,9 +76,7 @@ fn time_bids(
 
 // One sheet, by its file.
 fn time_file(rt: &HostRuntime, sheet: &str, increment: u64, repeats: u64) -> anyhow::Result<()> {
-    let bytes = fs::read(rt, sheet)?;
-    let mut filled = DenseSheet::new(rt.alloc());
-    filled.fill(bytes).map_err(|fault| refusal(rt, fault))?;
+    let filled = sheet_of(rt, fs::read(rt, sheet)?)?;
     time_bids(rt, &filled, increment, repeats)
 }
 

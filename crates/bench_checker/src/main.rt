@@ -1,7 +1,7 @@
 #![tactic(auto)]
 // The benchmark `bench_checker`: how long one check of a certificate over a dense sheet takes.
 use anyhow::anyhow;
-use bench_tools::{refusal, time_often, wrong_call};
+use bench_tools::{sheet_of, time_often, wrong_call};
 use certificates::checker::check;
 use fault::faults::Fault;
 use points::sources::{PairSource, RowSource};
@@ -56,8 +56,7 @@ fn time_files(
 ) -> anyhow::Result<()> {
     let bytes = fs::read(rt, sheet)?;
     let written = fs::read(rt, certificate)?;
-    let mut filled = DenseSheet::new(rt.alloc());
-    filled.fill(bytes).map_err(|fault| refusal(rt, fault))?;
+    let filled = sheet_of(rt, bytes)?;
     let plan = read_certificate(rt.alloc(), &written).map_err(|_| anyhow!(
         "the certificate is not read"
     ))?;

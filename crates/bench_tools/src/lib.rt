@@ -1,9 +1,17 @@
 #![tactic(auto)]
-// What the benchmark programs share: work repeated and timed, and how they end on a refusal or a wrong call.
+// What the benchmark programs share: sheets, work repeated and timed, and how they end on a refusal or a wrong call.
 use anyhow::anyhow;
 use fault::faults::Fault;
+use sheets::dense::DenseSheet;
 use std::io;
 use std::time::Instant;
+
+// The dense sheet of a file's bytes.
+pub fn sheet_of(rt: &HostRuntime, bytes: Vec<u8>) -> anyhow::Result<DenseSheet> {
+    let mut sheet = DenseSheet::new(rt.alloc());
+    sheet.fill(bytes).map_err(|fault| refusal(rt, fault))?;
+    Ok(sheet)
+}
 
 // What a step comes to when it is made over and over, each time on what it came to before, and the nanoseconds of all.
 pub fn time_often<T: Default + Drop, F: Fn(T) -> Result<T, Fault>>(
