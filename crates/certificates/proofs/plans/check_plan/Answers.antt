@@ -1,6 +1,5 @@
 use Rattle.std.proofs.Common.{◌≡◌, ℕ, ◌+◌, ◌<◌, ◌≤◌, true, length, set, sym, refl, ap, ◌∙◌, subst, arith, length-set, below_more}
 use borrow.Author.Differences.{ints}
-use Rattle.std.proofs.lemmas.Result.{err_from_is_err_and}
 use Rattle.std.proofs.lemmas.Bool.{ltb-true}
 use Rattle.fault.specs.Checks.{Passes}
 use Rattle.certificates.specs.Certificates.{seat_in, run_checks}
@@ -11,11 +10,6 @@ use Rattle.certificates.proofs.plans.check_plan.Goals as goal
 
 pub loop-run-init : goal.loop-run-init
 loop-run-init g c = ((λ k l. absurd (omega arith)), marked_none c.args.seats.now 256, refl, refl)
-
-pub returns-in_err-points : goal.returns-in_err-points
-returns-in_err-points g c =
-    let p = err_from_is_err_and c.from_residual.result c.from_residual.ensures.1 in
-    rw (p.1, p.2) (c.loop-run.run, omega arith, c.loop-run.invariant.0, c.in_err-points.ensures)
 
 pub add_points-sum-requires : goal.add_points-sum-requires
 add_points-sum-requires g c =

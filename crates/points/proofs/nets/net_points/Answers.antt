@@ -11,7 +11,3 @@ pub less-requires : goal.less-requires
 less-requires c =
     let f = scaled_fits c.args.size c.args.points (omega arith) c.ranges.points in
     (omega (arith, ints, is c, f.0), omega (arith, ints, is c, f.1), omega (arith, c.limited.ensures))
-
-pub returns : goal.returns
-returns c =
-    omega (arith, ints, is c.before, c.limited.ensures, c.less.ensures, scaled_fits c.args.size c.args.points (omega arith) c.ranges.points)

@@ -1,4 +1,4 @@
-use Rattle.std.proofs.Common.{rules, ◌≡◌, ℕ, zero, suc, ◌+◌, ◌-◌, List, [], ◌∷◌, ◌++◌, sym, ap, ◌∙◌, refl, arith, add-one}
+use Rattle.std.proofs.Common.{rules, ◌≡◌, ℕ, zero, suc, ◌+◌, [], ◌∷◌, sym, ap, ◌∙◌, refl, arith, add-one}
 use Rattle.std.specs.List.{fold, range_with_len}
 use Rattle.std.proofs.iter.Yields.{nat_range_steps}
 use Rattle.std.proofs.lemmas.Fn.{fold_over}
@@ -7,7 +7,7 @@ use Rattle.std.proofs.lemmas.List.Sums.{fold-append}
 use Rattle.points.specs.declared.summaries.Summary.{Summary}
 use Rattle.points.specs.Tables.{Table}
 use Rattle.points.specs.Seats.{seats_from}
-use Rattle.points.specs.Summaries.{nothing, noted, row_noted, summary_to, summary_of}
+use Rattle.points.specs.Summaries.{nothing, noted, row_noted, summary_to}
 use Rattle.points.proofs.Allowed.{noted_seats}
 use Rattle.points.proofs.summarize.summarize.Goals as goal
 
