@@ -1,5 +1,6 @@
 -- Lists with entries that may be absent: reading after a write, counting, and lists that return each other.
 use Rattle.std.proofs.Common.{◌≡◌, ℕ, zero, suc, ◌+◌, ◌<◌, ◌≤◌, true, false, not, List, [], ◌∷◌, length, get_or, set, replicate, is_some, Some, None, Option, sym, refl, ap, ◌∙◌, le_of_suc-le-suc, not-suc-le-zero, arith}
+use Rattle.std.proofs.lemmas.Option.{none-some}
 use Rattle.std.proofs.lemmas.Bool.{eqb-true}
 use Rattle.std.proofs.lemmas.Bool.Decides.{nat_tests}
 use Rattle.ledgers.specs.Rules.{count, names}
@@ -19,11 +20,8 @@ same (suc n) a zero = refl
 same (suc n) a (suc k) = same n a k
 
 -- nothing is not something
-pub none_is_some : {A B : Type 0} (x : A) → None ≡ Some x → B
-none_is_some x e = cc
-
 pub empty_some : {A B : Type 0} (n k : ℕ) (x : A) → get_or (replicate n None) k None ≡ Some x → B
-empty_some {A} n k x e = none_is_some x (sym (same {A = Option A} n None k) ∙ e)
+empty_some {A} n k x e = absurd (none-some x (sym (same {A = Option A} n None k) ∙ e))
 
 pub is_none : {A : Type 0} (o : Option A) → is_some o ≡ false → o ≡ None
 is_none None e = refl
@@ -42,13 +40,13 @@ names_some None a e = cc
 names_some (Some b) a e = ap Some (eqb-true b a e)
 
 pub some_names : (o : Option ℕ) (a : ℕ) → o ≡ Some a → names o a ≡ true
-some_names None a e = none_is_some a e
+some_names None a e = absurd (none-some a e)
 some_names (Some b) a e = let q : b ≡ a = cc in grind (arith, nat_tests)
 
 -- one entry fewer
 pub count_none : {A : Type 0} (xs : List (Option A)) (i : ℕ) (x : A) → get_or xs i None ≡ Some x → count (set xs i None) + 1 ≡ count xs
-count_none [] i x e = none_is_some x e
-count_none (None ∷ xs) zero x e = none_is_some x e
+count_none [] i x e = absurd (none-some x e)
+count_none (None ∷ xs) zero x e = absurd (none-some x e)
 count_none (Some y ∷ xs) zero x e = refl
 count_none (None ∷ xs) (suc i) x e = count_none xs i x e
 count_none (Some y ∷ xs) (suc i) x e = ap (λ n. n + 1) (count_none xs i x e)
@@ -60,7 +58,7 @@ count_out xs i e = let x = some_of (get_or xs i None) e in count_none xs i x.0 x
 pub count_some : {A : Type 0} (xs : List (Option A)) (i : ℕ) (x : A) → i < length xs → get_or xs i None ≡ None → count (set xs i (Some x)) ≡ count xs + 1
 count_some [] i x h e = absurd (not-suc-le-zero h)
 count_some (None ∷ xs) zero x h e = refl
-count_some (Some y ∷ xs) zero x h e = none_is_some y (sym e)
+count_some (Some y ∷ xs) zero x h e = absurd (none-some y (sym e))
 count_some (None ∷ xs) (suc i) x h e = count_some xs i x (le_of_suc-le-suc h) e
 count_some (Some y ∷ xs) (suc i) x h e = ap (λ n. n + 1) (count_some xs i x (le_of_suc-le-suc h) e)
 

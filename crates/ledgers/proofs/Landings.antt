@@ -1,5 +1,6 @@
 -- The rules of a ledger once a bid has landed.
 use Rattle.std.proofs.Common.{◌≡◌, ℕ, ◌+◌, ◌*◌, ◌<◌, ◌≤◌, false, ◌≢◌, List, length, get_or, set, is_some as option_is_some, Some, None, Option, sym, refl, ap, ◌∙◌, subst, arith, length-set, get_or-set_other, get_or-set_same}
+use Rattle.std.proofs.lemmas.Option.{none-some}
 use native.Mathlib.Decide.{ℕ_discrete}
 use Rattle.auction.proofs.Holders.{is_some}
 use Rattle.ledgers.specs.declared.books.Bid.{Bid}
@@ -7,7 +8,7 @@ use Rattle.ledgers.specs.declared.ledger.Ledger.{Ledger}
 use Rattle.ledgers.specs.Rules.{phase_rise, count, Waiting, Below, Returned, UpTo}
 use Rattle.ledgers.specs.Books.{seat_at, holder_at, freed, seated_after}
 use Rattle.ledgers.specs.Ledgers.{size_of, Deliverable}
-use Rattle.ledgers.proofs.Entries.{each_set, none_is_some, is_none, names_some, some_names, count_none, count_some}
+use Rattle.ledgers.proofs.Entries.{each_set, is_none, names_some, some_names, count_none, count_some}
 
 -- the seats z of a ledger's runs once the run that holds seat j, if any, is free
 pub record Freed (l : Ledger) (j : ℕ) (z : List (Option ℕ)) : Type 0 where
@@ -25,7 +26,7 @@ seat_on l r j e = names_some (holder_at l.book j) r (l.holding r j e)
 
 freed_seats : (l : Ledger) (j : ℕ) (o : Option ℕ) → holder_at l.book j ≡ o → Freed l j (freed l.book.seats (holder_at l.book j))
 freed_seats l j None e = subst (λ (o : Option ℕ). Freed l j (freed l.book.seats o)) (sym e) (record {
-  displaced = λ r h. none_is_some r (sym e ∙ seat_on l r j h);
+  displaced = λ r h. absurd (none-some r (sym e ∙ seat_on l r j h));
   kept = λ r n. refl;
   long = refl;
   counted = ap (seated_after (count l.book.seats)) e;
@@ -58,7 +59,7 @@ module _ {l : Ledger} {i : ℕ} {x : Bid} {j : ℕ} {z : List (Option ℕ)} {ps 
   free_i = is_none (seat_at l.book i) (l.waiting i x f.bid.out)
 
   z_i : get_or z i None ≡ None
-  z_i = freed_z.kept i (λ e. none_is_some j (sym free_i ∙ e)) ∙ free_i
+  z_i = freed_z.kept i (λ e. absurd (none-some j (sym free_i ∙ e))) ∙ free_i
 
   pub seat_here : get_or (set z i (Some x.seat)) i None ≡ Some j
   seat_here = get_or-set_same z i (Some x.seat) None (omega (arith, freed_z.long, f.bid.low, l.sized.1, l.whole.0)) ∙ ap Some (sym f.seat)
@@ -80,7 +81,7 @@ module _ {l : Ledger} {i : ℕ} {x : Bid} {j : ℕ} {z : List (Option ℕ)} {ps 
       zr = sym (seat_other r h) ∙ e
 
       go : Dec (seat_at l.book r ≡ Some j) → (seat_at l.book r ≡ Some a) × (a ≢ j)
-      go (yes g) = none_is_some a (sym (freed_z.displaced r g) ∙ zr)
+      go (yes g) = absurd (none-some a (sym (freed_z.displaced r g) ∙ zr))
       go (no g) = let s : seat_at l.book r ≡ Some a = sym (freed_z.kept r g) ∙ zr in (s, λ q. g (s ∙ ap Some q))
 
   -- a run other than i that has a seat other than the bid's keeps it
@@ -91,7 +92,7 @@ module _ {l : Ledger} {i : ℕ} {x : Bid} {j : ℕ} {z : List (Option ℕ)} {ps 
   waiting_landed r y e = go (ℕ_discrete r i) (is_some (seat_at l.book r) j)
     where
       go : Dec (r ≡ i) → Dec (seat_at l.book r ≡ Some j) → option_is_some (get_or (set z i (Some x.seat)) r None) ≡ false
-      go (yes q) g = none_is_some y (sym (get_or-set_same l.book.bids i None None (omega (arith, f.bid.low, l.sized.1, l.whole.2))) ∙ ap (λ (v : ℕ). get_or (set l.book.bids i None) v None) (sym q) ∙ e)
+      go (yes q) g = absurd (none-some y (sym (get_or-set_same l.book.bids i None None (omega (arith, f.bid.low, l.sized.1, l.whole.2))) ∙ ap (λ (v : ℕ). get_or (set l.book.bids i None) v None) (sym q) ∙ e))
       go (no h) (yes g) = ap option_is_some (seat_other r h ∙ freed_z.displaced r g)
       go (no h) (no g) = ap option_is_some (seat_other r h ∙ freed_z.kept r g) ∙ l.waiting r y (sym (get_or-set_other l.book.bids i r None None h) ∙ e)
 
@@ -116,7 +117,7 @@ module _ {l : Ledger} {i : ℕ} {x : Bid} {j : ℕ} {z : List (Option ℕ)} {ps 
       go (yes q) = let w : get_or (set l.book.holders j (Some i)) a None ≡ Some i = ap (λ (v : ℕ). get_or (set l.book.holders j (Some i)) v None) q ∙ holder_here in let v : r ≡ i = cc in ap (λ (u : ℕ). get_or (set z i (Some x.seat)) u None) v ∙ seat_here ∙ ap Some (sym q)
       go (no h) =
           let s : seat_at l.book r ≡ Some a = on_seat l a r (sym (holder_other a h) ∙ e) in
-          after r a (λ q. none_is_some a (sym free_i ∙ ap (seat_at l.book) (sym q) ∙ s)) s h
+          after r a (λ q. absurd (none-some a (sym free_i ∙ ap (seat_at l.book) (sym q) ∙ s))) s h
 
   pub holding_landed : Returned (set z i (Some x.seat)) (set l.book.holders j (Some i))
   holding_landed r a e = some_names (get_or (set l.book.holders j (Some i)) a None) r (go (ℕ_discrete r i))

@@ -1,5 +1,6 @@
 -- The writes of a book are the market's events.
 use Rattle.std.proofs.Common.{◌≡◌, ℕ, suc, ◌+◌, ◌-◌, ◌<◌, ◌≤◌, ◌≢◌, List, ◌∷◌, length, get_or, take, drop, set, true, is_some as option_is_some, Some, None, Option, sym, refl, ap, ◌∙◌, subst, arith, rules, length-take, drop-cons, get_or-set_other, get_or-take, get_or-set_same}
+use Rattle.std.proofs.lemmas.Option.{none-some}
 use Rattle.std.proofs.lemmas.Bool.{eqb-true, ltb-true}
 use Rattle.fault.specs.Checks.{Passes}
 use Rattle.points.specs.Tables.{Table}
@@ -18,7 +19,7 @@ use Rattle.ledgers.specs.Ledgers.{bid_of, view_of, unshown, Deliverable, Lands, 
 use Rattle.ledgers.specs.Opening.{Copied}
 use Rattle.auction.specs.Runs.{Ladder, Opened}
 use Rattle.ledgers.specs.Refusals.{advance_checks}
-use Rattle.ledgers.proofs.Entries.{same, none_is_some, not_some, some_of, count_full}
+use Rattle.ledgers.proofs.Entries.{same, not_some, some_of, count_full}
 use Rattle.ledgers.proofs.Landings.{Takes, freed_z, low_j, free_i, on_seat, seat_on, seat_here, seat_other}
 use Rattle.ledgers.proofs.Ladders.{Passed, take_copied}
 
@@ -103,7 +104,7 @@ landed b i x j z ps n = record b {
 module _ {l : Ledger} {i : ℕ} {x : Bid} {j : ℕ} {z : List (Option ℕ)} {ps : List ℕ} (f : Takes l i x j z ps) where
   -- run i holds no seat while its bid is out
   apart : (r : ℕ) → seat_at l.book r ≡ Some j → r ≢ i
-  apart r h q = none_is_some j (sym (free_i f) ∙ ap (seat_at l.book) (sym q) ∙ h)
+  apart r h q = absurd (none-some j (sym (free_i f) ∙ ap (seat_at l.book) (sym q) ∙ h))
 
   pub lands_view : (n : ℕ) (d : Option ℕ) → d ≡ holder_at l.book j → price_at l.book x.seat + increment_of l.book ≤ x.price → Lands l.book (landed l.book i x j z ps n) i j x.price d
   lands_view n d q enough = (

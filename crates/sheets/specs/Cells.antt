@@ -1,6 +1,7 @@
 -- The points of a dense sheet: in which range they lie.
-use Rattle.std.specs.Prelude.{◌≡◌, ℕ, ◌+◌, ◌*◌, ◌<◌, Bool, true, ◌&&◌, List, length, ℤ, pos, neg_ℤ, ◌≤ℤ◌, Some, None, Option, ◌==◌, nat_lt}
-use Rattle.std.proofs.Common.{sym, ◌∙◌, inl, inr, arith}
+use Rattle.std.specs.Prelude.{◌≡◌, ℕ, ◌+◌, ◌*◌, ◌<◌, Bool, true, ◌&&◌, List, length, ℤ, pos, neg_ℤ, ◌≤ℤ◌, Some, None, ◌==◌, nat_lt}
+use Rattle.std.proofs.lemmas.Option.{none-some}
+use Rattle.std.proofs.Common.{sym, ◌∙◌, inl, inr}
 use Rattle.std.proofs.lemmas.Bool.{and_parts, or_cases, both_ways, cases_Bool, cond-true, cond-false, ltb-true}
 use Rattle.fault.specs.Checks.{Passes, kept}
 use Rattle.fault.proofs.Once.{kept_passes}
@@ -19,7 +20,7 @@ module _ (bs : List ℕ) (keeps : 0 < length bs → kept (dense_checks bs) ≡ t
 
   -- an allowed pair lies below the size, and its word is in range
   found : (i k : ℕ) (p : ℤ) → Pays (dense_table bs) i k p → (i < size_in bs) × (k < size_in bs) × (neg_ℤ (pos sheet_top) ≤ℤ p) × (p ≤ℤ pos sheet_top)
-  found i k p e = elim (cases_Bool inside) [ inl t ↦ within t | inr t ↦ clash (sym (cond-false inside (cell word) None t) ∙ e) ]
+  found i k p e = elim (cases_Bool inside) [ inl t ↦ within t | inr t ↦ absurd (none-some p (sym (cond-false inside (cell word) None t) ∙ e)) ]
     where
       inside : Bool
       inside = nat_lt i (size_in bs) && nat_lt k (size_in bs)
@@ -27,8 +28,6 @@ module _ (bs : List ℕ) (keeps : 0 < length bs → kept (dense_checks bs) ≡ t
       word : ℕ
       word = le32 bs (row_at (size_in bs) i + 4 * k)
 
-      clash : {A : Type 0} → ◌≡◌ {A = Option ℤ} None (Some p) → A
-      clash q = let z : ◌≡◌ {A = ℕ} 0 1 = cc in absurd (omega arith)
 
       within : inside ≡ true → (i < size_in bs) × (k < size_in bs) × (neg_ℤ (pos sheet_top) ≤ℤ p) × (p ≤ℤ pos sheet_top)
       within t =
@@ -37,7 +36,7 @@ module _ (bs : List ℕ) (keeps : 0 < length bs → kept (dense_checks bs) ≡ t
           let l : k < size_in bs = ltb-true _ _ b.1 in
           let c : cell word ≡ Some p = sym (cond-true inside (cell word) None t) ∙ e in
           elim (cases_Bool (word == absent)) [
-            | inl a ↦ clash (sym (cond-true (word == absent) None (Some (signed32 word)) a) ∙ c)
+            | inl a ↦ absurd (none-some p (sym (cond-true (word == absent) None (Some (signed32 word)) a) ∙ c))
             | inr a ↦ (
                 let s : Some (signed32 word) ≡ Some p = sym (cond-false (word == absent) None (Some (signed32 word)) a) ∙ c in
                 let r : in_range word ≡ true = elim (or_cases (word == absent) (in_range word) (fair i k h l)) [ inl q ↦ absurd (both_ways _ a q) | inr q ↦ q ] in

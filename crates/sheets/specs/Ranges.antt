@@ -1,5 +1,6 @@
 -- The points of a sparse sheet: where they lie, and in which range.
-use Rattle.std.specs.Prelude.{◌≡◌, ℕ, zero, suc, ◌+◌, ◌-◌, ◌*◌, ◌<◌, ◌≤◌, true, List, length, ℤ, pos, neg_ℤ, ◌≤ℤ◌, Some, None, Option, nat_le, nat_lt}
+use Rattle.std.specs.Prelude.{◌≡◌, ℕ, zero, suc, ◌+◌, ◌-◌, ◌*◌, ◌<◌, ◌≤◌, true, List, length, ℤ, pos, neg_ℤ, ◌≤ℤ◌, None, nat_le, nat_lt}
+use Rattle.std.proofs.lemmas.Option.{none-some}
 use Rattle.std.proofs.Common.{sym, ap, ◌∙◌, inl, inr, arith}
 use Rattle.std.proofs.lemmas.Bool.{and_parts, cases_lt, leb-true, ltb-true, eqb-true, le-ltb, cond-false}
 use Rattle.fault.specs.Checks.{Passes, kept}
@@ -40,10 +41,8 @@ module _ (bs : List ℕ) (keeps : 0 < length bs → kept (sparse_checks bs) ≡ 
 
   -- an allowed pair lies below the size, and its points are in range
   found : (i k : ℕ) (p : ℤ) → Pays (sparse_table bs) i k p → (i < size_in bs) × (k < size_in bs) × (neg_ℤ (pos sheet_top) ≤ℤ p) × (p ≤ℤ pos sheet_top)
-  found i k p e = elim (cases_lt i (size_in bs)) [ inl h ↦ within h | inr h ↦ clash (sym (cond-false (nat_lt i (size_in bs)) (point_in bs k (row_from bs i) (row_len bs i)) None (le-ltb i (size_in bs) h)) ∙ e) ]
+  found i k p e = elim (cases_lt i (size_in bs)) [ inl h ↦ within h | inr h ↦ absurd (none-some p (sym (cond-false (nat_lt i (size_in bs)) (point_in bs k (row_from bs i) (row_len bs i)) None (le-ltb i (size_in bs) h)) ∙ e)) ]
     where
-      clash : {A : Type 0} → ◌≡◌ {A = Option ℤ} None (Some p) → A
-      clash q = let z : ◌≡◌ {A = ℕ} 0 1 = cc in absurd (omega arith)
 
       within : i < size_in bs → (i < size_in bs) × (k < size_in bs) × (neg_ℤ (pos sheet_top) ≤ℤ p) × (p ≤ℤ pos sheet_top)
       within h =
