@@ -28,7 +28,6 @@ module _ (bs : List ℕ) (keeps : 0 < length bs → kept (dense_checks bs) ≡ t
       word : ℕ
       word = le32 bs (row_at (size_in bs) i + 4 * k)
 
-
       within : inside ≡ true → (i < size_in bs) × (k < size_in bs) × (neg_ℤ (pos sheet_top) ≤ℤ p) × (p ≤ℤ pos sheet_top)
       within t =
           let b = and_parts (nat_lt i (size_in bs)) (nat_lt k (size_in bs)) t in

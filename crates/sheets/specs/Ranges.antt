@@ -43,7 +43,6 @@ module _ (bs : List ℕ) (keeps : 0 < length bs → kept (sparse_checks bs) ≡ 
   found : (i k : ℕ) (p : ℤ) → Pays (sparse_table bs) i k p → (i < size_in bs) × (k < size_in bs) × (neg_ℤ (pos sheet_top) ≤ℤ p) × (p ≤ℤ pos sheet_top)
   found i k p e = elim (cases_lt i (size_in bs)) [ inl h ↦ within h | inr h ↦ absurd (none-some p (sym (cond-false (nat_lt i (size_in bs)) (point_in bs k (row_from bs i) (row_len bs i)) None (le-ltb i (size_in bs) h)) ∙ e)) ]
     where
-
       within : i < size_in bs → (i < size_in bs) × (k < size_in bs) × (neg_ℤ (pos sheet_top) ≤ℤ p) × (p ≤ℤ pos sheet_top)
       within h =
           let ok : Passes (sparse_checks bs) = passed i h in
