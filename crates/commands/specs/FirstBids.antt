@@ -17,18 +17,18 @@ use Rattle.sheets.specs.Kinds.{sheet_checks, sheet_table}
 use Rattle.commands.specs.declared.first_bid.FirstBid.{FirstBid}
 use Rattle.commands.specs.declared.first_bid.BidLine.{BidLine}
 
--- `seat S net V second W price P`
+-- `run R seat S net V second W price P`
 abbrev pub bid_text : FirstBid → List ℕ
-bid_text b = codes "seat " ++ (decimal b.seat ++ (codes " net " ++ (signed_decimal b.net ++ (codes " second " ++ (signed_decimal b.second ++ (codes " price " ++ decimal b.price))))))
+bid_text b = codes "run " ++ (decimal b.run ++ (codes " seat " ++ (decimal b.seat ++ (codes " net " ++ (signed_decimal b.net ++ (codes " second " ++ (signed_decimal b.second ++ (codes " price " ++ decimal b.price))))))))
 
--- a bid, or `no full plan`
-abbrev pub bid_or_none_text : Option FirstBid → List ℕ
-bid_or_none_text (Some b) = bid_text b
-bid_or_none_text None = codes "no full plan"
+-- a run's bid, or `run R no full plan`
+abbrev pub bid_or_none_text : ℕ → Option FirstBid → List ℕ
+bid_or_none_text i (Some b) = bid_text b
+bid_or_none_text i None = codes "run " ++ (decimal i ++ codes " no full plan")
 
--- `run R`, and the bid
+-- the same, of a line
 abbrev pub bid_line_text : BidLine → List ℕ
-bid_line_text l = codes "run " ++ (decimal l.run ++ (codes " " ++ bid_or_none_text l.bid))
+bid_line_text l = bid_or_none_text l.run l.bid
 
 -- a market whose increment is 1 and in which no price was above 0 when the phase began
 pub record Fresh (m : Market) : Type 0 where
@@ -41,6 +41,7 @@ FreePrices q = (k : ℕ) → q k ≡ 0
 
 -- run i's bid at prices q in any fresh market, with the net of its best seat and its second value
 pub record BidsFirst (t : Table) (q : ℕ → ℕ) (i : ℕ) (b : FirstBid) : Type 0 where
+  pub run : b.run ≡ i
   pub free : FreePrices q
   pub bid : (m : Market) → Fresh m → BestBid t m q i b.seat b.price
   pub sought : Sought

@@ -45,6 +45,7 @@ pub(crate) fn bid_at_start<S: RowSource>(source: &S, terms: &Terms, run: usize) 
     let offer = compose_bid(source, &board, terms, run)?;
     let best = seek(source, &board, terms, run)?;
     Some(FirstBid {
+        run,
         seat: offer.seat,
         net: best.net,
         second: best.second,

@@ -1,12 +1,16 @@
 // The commands `show` and `check`, from bytes to their lines.
-ghost use Rattle.std.specs.Prelude.{◌≡◌};
+ghost use Rattle.std.specs.Prelude.{◌≡◌, MatchResult};
+ghost use Rattle.points.specs.Summaries.{summary_of};
+ghost use Rattle.certificates.specs.Certificates.{Accepted, Refused};
+ghost use Rattle.sheets.specs.Any.{table_of};
 ghost use Rattle.commands.specs.declared.calls.Failure.TheVariants.{Refusal, NoCertificate};
 ghost use Rattle.commands.specs.Answers.{Shown, Judged, Checked};
 
 use crate::lines::{AcceptedLine, SheetLine};
 use certificates::checker::check;
 use fault::faults::Fault;
-use points::sources::PairSource;
+use points::sources::{PairSource, RowSource};
+use points::summaries::Summary;
 use points::summarize::summarize;
 use sheets::any::AnySheet;
 use sheets::certificate_files::{Unreadable, read_certificate};
@@ -37,6 +41,27 @@ impl From<Unreadable> for Failure {
     }
 }
 
+// What a sheet of either kind comes to. (Each kind by itself, as in `total_of`: asked as an `AnySheet`, a sheet looks at its
+// kind at each question.)
+fn summary_of(sheet: &AnySheet) -> Summary
+    ensures { result ≡ summary_of (table_of sheet.now) }
+{
+    match sheet {
+        AnySheet::Dense(sheet) => summarize(sheet),
+        AnySheet::Sparse(sheet) => summarize(sheet),
+    }
+}
+
+// The total of a plan over a sheet of either kind, or the first rule that its certificate breaks.
+fn total_of(sheet: &AnySheet, seats: &[u16], prices: &[u64]) -> Result<i64, Fault>
+    ensures { MatchResult result (λ a. Accepted (table_of sheet.now) seats.now prices.now a) (λ f. Refused (table_of sheet.now) seats.now prices.now f) }
+{
+    match sheet {
+        AnySheet::Dense(sheet) => check(sheet, seats, prices),
+        AnySheet::Sparse(sheet) => check(sheet, seats, prices),
+    }
+}
+
 // The line of a sheet of either kind.
 pub fn show_sheet(bytes: Vec<u8>) -> Result<SheetLine, Fault>
     ensures { Shown bytes.items result }
@@ -45,7 +70,7 @@ pub fn show_sheet(bytes: Vec<u8>) -> Result<SheetLine, Fault>
     Ok(SheetLine {
         kind: sheet.kind(),
         runs: sheet.size(),
-        summary: summarize(&sheet),
+        summary: summary_of(&sheet),
     })
 }
 
@@ -53,7 +78,7 @@ pub fn show_sheet(bytes: Vec<u8>) -> Result<SheetLine, Fault>
 pub fn check_plan(bytes: Vec<u8>, seats: &[u16], prices: &[u64]) -> Result<AcceptedLine, Fault>
     ensures { Judged bytes.items seats.now prices.now result }
 {
-    let total = check(&AnySheet::read(bytes)?, seats, prices)?;
+    let total = total_of(&AnySheet::read(bytes)?, seats, prices)?;
     Ok(AcceptedLine { total })
 }
 

@@ -7,6 +7,7 @@ use std::fmt;
 // What a run bids where no price is above 0, in scaled points.
 #[derive(Clone, Copy, PartialEq, Eq, Debug)]
 pub struct FirstBid {
+    pub run: usize,
     // its best seat, and what that nets
     pub seat: usize,
     pub net: i64,
@@ -28,8 +29,8 @@ impl fmt::Display for FirstBid {
     fn fmt<W: fmt::Write>(&self, f: &mut fmt::Formatter<W>) -> fmt::Result {
         write!(
             f,
-            "seat {} net {} second {} price {}",
-            self.seat, self.net, self.second, self.price
+            "run {} seat {} net {} second {} price {}",
+            self.run, self.seat, self.net, self.second, self.price
         )
     }
 }
@@ -39,7 +40,7 @@ impl fmt::Display for BidLine {
 
     fn fmt<W: fmt::Write>(&self, f: &mut fmt::Formatter<W>) -> fmt::Result {
         match self.bid {
-            Some(bid) => write!(f, "run {} {bid}", self.run),
+            Some(bid) => write!(f, "{bid}"),
             None => write!(f, "run {} no full plan", self.run),
         }
     }

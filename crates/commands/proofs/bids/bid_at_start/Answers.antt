@@ -1,4 +1,4 @@
-use Rattle.std.proofs.Common.{◌≡◌, ℕ, min, ℤ, sym, ap, ◌∙◌, subst, ap₂, arith}
+use Rattle.std.proofs.Common.{◌≡◌, ℕ, min, ℤ, refl, sym, ap, ◌∙◌, subst, ap₂, arith}
 use borrow.Author.Differences.{ints}
 use Rattle.points.specs.Limits.{price_limit}
 use Rattle.points.specs.Tables.{Table}
@@ -36,6 +36,7 @@ returns g c =
     let q : ℕ → ℕ = limited_to f c.args.run in (
       q,
       record {
+        run = refl;
         free = zero f 0 c.new-board.ensures c.args.run;
         bid = λ m h. c.in_ok-offer.ensures.limited m (terms_of t x c.requires m h);
         sought = c.in_ok-best.best;
