@@ -45,6 +45,13 @@ pub(crate) fn note_row<S: RowSource>(source: &S, run: usize, before: Summary) ->
         .fold(before, |seen, seat| note(seen, source.points(run, seat)))
 }
 
+// Every run of so many.
+fn runs(size: usize) -> std::ops::Range<usize>
+    ensures { result ≡ record { start = 0; end = size } }
+{
+    0..size
+}
+
 // What a source comes to.
 pub fn summarize<S: RowSource>(source: &S) -> Summary
     ensures { result ≡ summary_of (S.PairSource.table source.now) }
@@ -53,5 +60,5 @@ pub fn summarize<S: RowSource>(source: &S) -> Summary
         allowed: 0,
         range: None,
     };
-    (0..source.size()).fold(none, |seen, run| note_row(source, run, seen))
+    runs(source.size()).fold(none, |seen, run| note_row(source, run, seen))
 }

@@ -31,5 +31,5 @@ returns g c =
     (λ ys a x b f' j call.
     let e : b ≡ fold (λ u k. noted u (t.points x k)) a (seats_from t x 0) = search rules in
     (e ∙ noted_seats t x a ∙ ap (λ (s : Summary). more t s x) j ∙ sym (fold-append (more t) nothing ys (x ∷ [])), search rules))
-    (record { start = 0; end = n }) (range_with_len 0 n) _ _ (YieldsList-from_range 0 n n refl (omega arith)).runs refl c.fold.ensures.ran
+    c.runs.result (range_with_len 0 n) _ _ (YieldsList-from_range 0 n n c.runs.ensures (omega arith)).runs refl c.fold.ensures.ran
     ∙ summed t 0 n ∙ ap (summary_to t) whole
