@@ -1,5 +1,5 @@
 -- Tellings that are held back.
-use Rattle.std.specs.Prelude.{take, length, Option, find, reverse, unwrap_or, ◌≡◌, ℕ, ◌+◌, ◌<◌, ◌≤◌, cond, List, [], ◌∷◌, ◌++◌, ◌==◌, refl}
+use Rattle.std.specs.Prelude.{take, length, zero, suc, Option, None, Some, find, reverse, unwrap_or, ◌≡◌, ℕ, ◌+◌, ◌<◌, ◌≤◌, ◌≢◌, cond, List, [], ◌∷◌, ◌++◌, ◌==◌, refl}
 use Rattle.std.specs.Option.{option_map}
 use Rattle.std.proofs.Common.{sym, subst, arith, le_refl, le_trans}
 use Rattle.std.proofs.lemmas.Bool.Decides.{nat_tests}
@@ -8,7 +8,7 @@ use Rattle.std.proofs.lemmas.List.Folds.{find-append}
 use Rattle.std.proofs.lemmas.Grind.{common_steps, reverse_onto}
 use Rattle.boards.specs.declared.tellings.Telling.{Telling}
 use Rattle.boards.specs.Calls.{Call, Run}
-use Rattle.boards.specs.Tellings.{call, calls, telling_at, newest, Seated, Climbs}
+use Rattle.boards.specs.Tellings.{call, calls, telling_at, newest, NewestAt, Seated, Climbs}
 
 -- the newest telling for a seat is the first that a search from the back finds
 pub newest_found : (ts : List Telling) (k x : ℕ) → newest ts k x ≡ unwrap_or (option_map (λ t. t.price) (find (λ t. k == t.seat) (reverse ts))) x
@@ -17,6 +17,21 @@ newest_found (t ∷ ts) k x = grind (arith, common_steps, newest_found ts k (con
 
 pub newest_is : (ts us : List Telling) (k x : ℕ) (found : Option ℕ) → us ≡ ts → found ≡ option_map (λ t. t.price) (find (λ t. k == t.seat) (reverse us)) → unwrap_or found x ≡ newest ts k x
 newest_is ts us k x found same is = rw (is, same) (sym (newest_found ts k x))
+
+-- a search from the back finds no telling for a seat that none is for
+pub found_none : (ts : List Telling) (k : ℕ) → ((j : ℕ) → j < length ts → (telling_at ts j).seat ≢ k) → find (λ t. k == t.seat) (reverse ts) ≡ None
+found_none [] k h = refl
+found_none (t ∷ ts) k h = grind (arith, common_steps, nat_tests, found_none ts k (λ j l. h (suc j) (omega arith)), h 0 (omega arith), find-append (λ (u : Telling). k == u.seat) (reverse ts) (t ∷ []), reverse_onto ts t [])
+
+-- and the one after which none is for that seat
+pub found_some : (ts : List Telling) (k i : ℕ) → i < length ts → (telling_at ts i).seat ≡ k → ((j : ℕ) → i < j → j < length ts → (telling_at ts j).seat ≢ k) → find (λ t. k == t.seat) (reverse ts) ≡ Some (telling_at ts i)
+found_some [] k i l e h = absurd (omega arith)
+found_some (t ∷ ts) k zero l e h = grind (arith, common_steps, nat_tests, found_none ts k (λ j b. h (suc j) (omega arith) (omega arith)), find-append (λ (u : Telling). k == u.seat) (reverse ts) (t ∷ []), reverse_onto ts t [])
+found_some (t ∷ ts) k (suc i) l e h = grind (arith, common_steps, nat_tests, found_some ts k i (omega arith) e (λ j b c. h (suc j) (omega arith) (omega arith)), find-append (λ (u : Telling). k == u.seat) (reverse ts) (t ∷ []), reverse_onto ts t [])
+
+pub found_at : (ts : List Telling) (k : ℕ) (place : Option ℕ) → NewestAt ts k place → find (λ t. k == t.seat) (reverse ts) ≡ option_map (λ i. telling_at ts i) place
+found_at ts k None h = found_none ts k h
+found_at ts k (Some i) h = found_some ts k i h.0 h.1 h.2
 
 -- one call more, the last
 pub run_push : {S : Type 0} (Does : Call → S → S → Type 0) (cs : List Call) (c : Call) (a m b : S) → Run Does cs a m → Does c m b → Run Does (cs ++ c ∷ []) a b

@@ -1,5 +1,5 @@
 -- Tellings that are held back, the oldest first.
-use Rattle.std.specs.Prelude.{◌≡◌, ℕ, ◌<◌, ◌≤◌, cond, List, [], ◌∷◌, map, length, ◌==◌, slice_index_or}
+use Rattle.std.specs.Prelude.{◌≡◌, ℕ, ◌<◌, ◌≤◌, ◌≢◌, MatchOption, Option, cond, List, [], ◌∷◌, map, length, ◌==◌, slice_index_or}
 use Rattle.boards.specs.declared.tellings.Telling.{Telling}
 use Rattle.boards.specs.declared.board.PriceBoard.{Ghosts as OfBoard}
 use Rattle.boards.specs.Calls.{Call, tells, Run}
@@ -45,3 +45,8 @@ Rise ts = (i j : ℕ) → i < j → j < length ts → (telling_at ts i).seat ≡
 -- no telling is below the price that p has for its seat
 abbrev pub Above : List Telling → (ℕ → ℕ) → Type 0
 Above ts p = (i : ℕ) → i < length ts → p (telling_at ts i).seat ≤ (telling_at ts i).price
+
+-- where the newest telling for seat k lies, if there is one
+abbrev pub NewestAt : List Telling → ℕ → Option ℕ → Type 0
+NewestAt ts k place = MatchOption place ((j : ℕ) → j < length ts → (telling_at ts j).seat ≢ k)
+    (λ i. (i < length ts) × ((telling_at ts i).seat ≡ k) × ((j : ℕ) → i < j → j < length ts → (telling_at ts j).seat ≢ k))

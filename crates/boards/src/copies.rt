@@ -33,16 +33,17 @@ impl SiteCopy {
         requires { seat < seat_limit }
         ensures { Marked seat self.old self.new }
     {
-        self.behind = Some(match self.behind {
-            Some(span) => Span {
-                from: span.from.min(seat),
-                to: span.to.max(seat + 1),
-            },
-            None => Span {
+        if let Some(span) = &mut self.behind {
+            // in place, and not by a new `Some`, whose writing takes a third more instructions; nor by an `if` for each
+            // end: of tellings in no order a branch is hard to tell, and it takes no less time where it is easy
+            span.from = span.from.min(seat);
+            span.to = span.to.max(seat + 1);
+        } else {
+            self.behind = Some(Span {
                 from: seat,
                 to: seat + 1,
-            },
-        });
+            });
+        }
     }
 
     // Copies the told prices wherever this copy may lie behind.
