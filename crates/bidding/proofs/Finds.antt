@@ -1,5 +1,5 @@
 -- The search for a run's best seat: what is known once the seats below k are seen, and at the end.
-use Rattle.std.proofs.Common.{◌≡◌, ℕ, suc, ◌+◌, ◌≤◌, Bool, true, false, cond, ◌⊎◌, ℤ, ◌≤ℤ◌, ◌<ℤ◌, Some, None, Option, List, [], ◌∷◌, refl, sym, add-one, arith}
+use Rattle.std.proofs.Common.{◌≡◌, ℕ, suc, ◌+◌, ◌≤◌, Bool, true, false, cond, ◌⊎◌, ℤ, ◌≤ℤ◌, ◌<ℤ◌, Some, None, Option, List, [], ◌∷◌, refl, sym, ap, add-one, arith}
 use borrow.Author.Differences.{ints, lt-true, lt-false}
 use lib.Signed.{lt_z}
 use Rattle.std.specs.Int.{int_max}
@@ -12,6 +12,7 @@ use Rattle.points.proofs.Allowed.{seats_first, seats_none}
 use Rattle.points.proofs.Scales.{worth}
 use Rattle.bidding.specs.declared.sought.Sought.{Sought}
 use Rattle.bidding.specs.Searches.{valued, weighed, Seeks}
+use Rattle.auction.proofs.Holders.{none_some}
 use Rattle.auction.proofs.Seeks.{Seen, seen_skip, seen_first, seen_better, seen_other, seen_best, seen_second}
 
 -- what is known of s by the seats below k
@@ -78,6 +79,13 @@ module _ (t : Table) (f : ℤ) (q : ℕ → ℕ) (i : ℕ) where
       let (p, a) = worth t i k here in
       let more : FoundBelow t f q i (k + 1) (weighed s (alone k p)) = rw add-one (found_more k p s a (found_skip from k s above gap x)) in
       rw a (found_all (k + 1) xs (weighed s (alone k p)) (omega arith) (sym rest) more)
+
+  -- the first allowed seat has a value
+  pub first_valued : {P : Type 0} (n k : ℕ) (xs : List ℕ) → seats_from t i 0 ≡ k ∷ xs → value n k ≡ None → P
+  first_valued n k xs left none =
+      let (above, below, here, gap, rest) = seats_first t i 0 k xs left in
+      let (p, a) = worth t i k here in
+      none_some (value n k) _ none (ap (valued n f q k) a)
 
   -- all allowed seats of the run, weighed in turn
   pub best_sought : (n : ℕ) (o : Option Sought) → Lawful t → n ≡ t.size → o ≡ reduce weighed (filter_map (value n) (seats_from t i 0)) → Seeks t f q i o

@@ -71,8 +71,9 @@ impl Ledger {
         requires ends { Ends self.old.book.counts counts }
         ensures { self.new.book ≡ dropped self.old.book run counts }
     {
-        self.book.bids[run] = None;
+        // the counts first: after the bid all five are written, and not just the one that rises
         self.book.counts = counts;
+        self.book.bids[run] = None;
     }
 
     // The highest price.

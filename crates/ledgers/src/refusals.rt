@@ -64,9 +64,10 @@ impl Ledger {
     pub(crate) fn bid_out(&self, run: usize) -> Result<Bid, Fault>
         ensures { MatchResult result (λ x. bid_at self.now.book run ≡ Some x) (λ f. (bid_at self.now.book run ≡ None) × (f ≡ run_fault self.now.book NoBidOut run)) }
     {
+        // not `ok_or`: with it and a fault made at every call a delivery that is outbid takes two fifths more instructions
         self.book
             .bid_at(run)
-            .ok_or(self.run_fault(Cause::NoBidOut, run))
+            .ok_or_else(|| self.run_fault(Cause::NoBidOut, run))
     }
 
     // The next phase may begin.
