@@ -1,5 +1,5 @@
 -- Spans by their bytes, a search among the spans of a row, and the rules that the bytes keep.
-use Rattle.std.proofs.Common.{◌≡◌, ℕ, ◌+◌, ◌-◌, ◌<◌, ◌≤◌, Bool, true, false, leb, List, [], Bor, Some, None, Option, IfSome, IsSomeAnd, MatchOption, length, take, drop, slice_index_or, sym, subst, ap, ◌∙◌, add-zero, arith}
+use Rattle.std.proofs.Common.{◌≡◌, ℕ, ◌+◌, ◌-◌, ◌<◌, ◌≤◌, true, false, List, [], Bor, Some, None, Option, IfSome, IsSomeAnd, MatchOption, length, take, drop, slice_index_or, sym, subst, ap, ◌∙◌, add-zero, arith}
 use Rattle.std.proofs.lemmas.Bool.{leb-true, leb-false, le-leb}
 use Rattle.std.specs.List.{HoldsAt}
 use Rattle.std.specs.List.Sorted.{IsPartitionedBy, IsPartitionPoint}
@@ -11,7 +11,7 @@ use Rattle.sheets.specs.Bytes.{le16, le32}
 use Rattle.sheets.specs.Parts.{le16_part, le32_part}
 use Rattle.sheets.specs.Headers.{size_in}
 use Rattle.sheets.specs.Sparse.{row_from, row_len, span_at, span_from, span_len, span_first, span_end, sparse_spans, sparse_checks}
-use Rattle.sheets.specs.Seeks.{SpansAt, Passed, First}
+use Rattle.sheets.specs.Seeks.{SpansAt, Passed, First, past}
 use Rattle.sheets.specs.Finds.{rising}
 
 -- the bytes of a sheet keep every rule
@@ -38,10 +38,6 @@ pub answered : {X Y : Type 0} (g : Option X) (r : Option Y) (R S : X → Y → T
 answered None r R S h f = h
 answered (Some x) None R S h f = h
 answered (Some x) (Some y) R S h f = f x y h
-
--- the span of these bytes does not end over the seat
-abbrev pub past : ℕ → List ℕ → Bool
-past seat b = leb (le16 b 0 + le16 b 2) seat
 
 module _ (bs : List ℕ) (spans : Passes (sparse_spans bs)) (i : ℕ) (row : i < size_in bs) (seat : ℕ) (xs : List (List ℕ)) (at : SpansAt bs (row_from bs i) (row_len bs i) xs) where
   end_is : (d : ℕ) (z : List ℕ) → d < row_len bs i → le16 (slice_index_or xs d z) 0 + le16 (slice_index_or xs d z) 2 ≡ span_end bs (row_from bs i + d)

@@ -1,8 +1,8 @@
--- The points of a dense sheet: in which range they lie.
-use Rattle.std.specs.Prelude.{◌≡◌, ℕ, ◌+◌, ◌*◌, ◌<◌, Bool, true, ◌&&◌, List, length, ℤ, pos, neg_ℤ, ◌≤ℤ◌, Some, None, ◌==◌, nat_lt}
+-- Cells of a dense sheet: where they lie, and what they say.
+use Rattle.std.specs.Prelude.{◌≡◌, ℕ, suc, ◌+◌, ◌*◌, ◌<◌, ◌≤◌, Bool, true, ◌&&◌, List, length, ℤ, pos, neg_ℤ, ◌≤ℤ◌, Some, None, ◌==◌, nat_le, nat_lt}
 use Rattle.std.proofs.lemmas.Option.{none-some}
-use Rattle.std.proofs.Common.{sym, ◌∙◌, inl, inr}
-use Rattle.std.proofs.lemmas.Bool.{and_parts, or_cases, both_ways, cases_Bool, cond-true, cond-false, ltb-true}
+use Rattle.std.proofs.Common.{sym, ◌∙◌, inl, inr, arith, mul-le-mul_left, mul-suc}
+use Rattle.std.proofs.lemmas.Bool.{and_parts, or_cases, both_ways, cases_Bool, cond-true, cond-false, ltb-true, leb-true, eqb-true}
 use Rattle.fault.specs.Checks.{Passes, kept}
 use Rattle.fault.proofs.Once.{kept_passes}
 use Rattle.points.specs.Tables.{Pays, Lawful}
@@ -11,9 +11,20 @@ use Rattle.sheets.specs.Headers.{size_in, sheet_top, absent, signed32, in_range}
 use Rattle.sheets.specs.Dense.{row_at, is_cell, dense_checks, cell, dense_table}
 use Rattle.sheets.specs.Words.{filled, range_bounds}
 
+-- the rows below n lie within n times n cells
+pub row_within : (n i : ℕ) → i < n → n * i + n ≤ n * n
+row_within n i h = let a : n * suc i ≤ n * n = mul-le-mul_left n h in omega (arith, a, mul-suc n i)
+
 module _ (bs : List ℕ) (keeps : 0 < length bs → kept (dense_checks bs) ≡ true) where
   passed : (i : ℕ) → i < size_in bs → Passes (dense_checks bs)
   passed i h = kept_passes (dense_checks bs) (keeps (filled bs i h))
+
+  pub small : (i : ℕ) → i < size_in bs → size_in bs ≤ 256
+  small i h = leb-true _ _ (and_parts (nat_le 1 (size_in bs)) (nat_le (size_in bs) 256) (passed i h).0.0.1.1).1
+
+  -- a cell lies within the bytes
+  pub room : (i k : ℕ) → i < size_in bs → k < size_in bs → row_at (size_in bs) i + 4 * k + 4 ≤ length bs
+  room i k h l = omega (arith, eqb-true _ _ (passed i h).0.1.1, row_within (size_in bs) i h)
 
   fair : (i k : ℕ) → i < size_in bs → k < size_in bs → is_cell (le32 bs (row_at (size_in bs) i + 4 * k)) ≡ true
   fair i k h l = (passed i h).1 i h k l

@@ -1,6 +1,7 @@
 -- What a search among the spans of a row finds.
-use Rattle.std.specs.Prelude.{◌≡◌, ℕ, ◌+◌, ◌-◌, ◌<◌, ◌≤◌, cond, List, length, take, drop, slice_index_or, ℤ, Some, None, Option, nat_le}
+use Rattle.std.specs.Prelude.{◌≡◌, ℕ, ◌+◌, ◌-◌, ◌<◌, ◌≤◌, Bool, cond, List, length, take, drop, slice_index_or, ℤ, Some, None, Option, nat_le}
 use Rattle.sheets.specs.declared.spans.Span.{Span}
+use Rattle.sheets.specs.Bytes.{le16}
 use Rattle.sheets.specs.Headers.{size_in, signed32}
 use Rattle.sheets.specs.Sparse.{row_from, row_end, span_at, span_from, span_len, span_first, span_end, point_word}
 
@@ -16,6 +17,10 @@ Passed bs from to k = (q : ℕ) → from ≤ q → q < to → span_end bs q ≤ 
 pub record SpansAt (bs : List ℕ) (j n : ℕ) (xs : List (List ℕ)) : Type 0 where
   pub long : length xs ≡ n
   pub each : (d : ℕ) (z : List ℕ) → d < n → slice_index_or xs d z ≡ take 8 (drop (span_at (size_in bs) (j + d)) bs)
+
+-- the span of these bytes ends at seat k, or before it
+abbrev pub past : ℕ → List ℕ → Bool
+past k b = nat_le (le16 b 0 + le16 b 2) k
 
 -- span j of row i is the first to end over seat k, and s has its fields
 pub record Found (bs : List ℕ) (i k : ℕ) (s : Span) (j : ℕ) : Type 0 where

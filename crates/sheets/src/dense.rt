@@ -13,6 +13,9 @@ use crate::sheet::{Layout, Sheet};
 use fault::causes::Cause;
 use fault::faults::Fault;
 
+// The kind of a dense sheet, as its header has it.
+pub const DENSE_KIND: u16 = Kind::Dense as u16;
+
 // The layout of dense sheets.
 pub struct Dense;
 

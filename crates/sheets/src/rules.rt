@@ -14,6 +14,9 @@ use crate::sparse::Sparse;
 use fault::causes::Cause;
 use fault::faults::Fault;
 
+// The kind of a sparse sheet, as its header has it.
+pub const SPARSE_KIND: u16 = Kind::Sparse as u16;
+
 // No sheet has more spans than this.
 pub const SPAN_LIMIT: u32 = 65_536;
 

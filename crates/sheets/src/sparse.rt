@@ -13,7 +13,7 @@ use crate::fields::Field;
 use crate::frames::Frame;
 use crate::rules::check_sparse;
 use crate::sheet::{Layout, Sheet};
-use crate::spans::Span;
+use crate::spans::{Span, seek};
 use fault::faults::Fault;
 
 // The layout of sparse sheets.
@@ -47,7 +47,7 @@ impl<'a> SparseBytes<'a> {
         ensures { First self.now.frame.bytes.now run seat result }
     {
         let spans = self.frame.row_spans(run);
-        let passed = spans.partition_point(|span| Span::read(span).ends_by(seat));
+        let passed = seek(spans, seat);
         spans.get(passed).map(|span| Span::read(span))
     }
 
