@@ -69,7 +69,7 @@ fn print_call<C: Display + Drop, A: Display + Drop>(
 }
 
 // An auction over a source: its title, the calls, and then the bids made.
-pub fn run_scene<
+pub(crate) fn run_scene<
     S: RowSource + Drop,
     B: PriceBoard + Drop,
     F: FnOnce(&mut Play<'_, S, B>) -> anyhow::Result<()>,

@@ -1,7 +1,7 @@
 #![tactic(auto)]
 // The benchmark `bench_bids`: how long a bid takes, from search to landing, over a dense sheet and a common board.
 use auction::limits::ALLOWANCE_LIMIT;
-use bench_tools::{sheet_of, time_often, wrong_call};
+use bench_tools::{refusal, sheet_of, wrong_call};
 use boards::board::PriceBoard;
 use boards::states::CommonBoard;
 use fault::faults::Fault;
@@ -9,6 +9,7 @@ use ledgers::deliveries::Delivery;
 use ledgers::ledger::Ledger;
 use points::sources::{PairSource, RowSource};
 use sheets::dense::DenseSheet;
+use std::time::Instant;
 use std::{env, fs};
 
 // What a first phase comes to.
@@ -59,6 +60,11 @@ fn play(sheet: &DenseSheet, increment: u64) -> Result<Phase, Fault> {
     })
 }
 
+// The same phase, over and over; the last is answered.
+fn play_often(sheet: &DenseSheet, increment: u64, repeats: u64) -> Result<Phase, Fault> {
+    (0..repeats).try_fold(Phase::default(), |_before, _| play(sheet, increment))
+}
+
 // The time of one bid, by the time of all.
 fn time_bids(
     rt: &HostRuntime,
@@ -66,7 +72,10 @@ fn time_bids(
     increment: u64,
     repeats: u64,
 ) -> anyhow::Result<()> {
-    let (phase, nanos) = time_often(rt, repeats, |_before: Phase| play(sheet, increment))?;
+    let start = Instant::now(rt)?;
+    let played = play_often(sheet, increment, repeats);
+    let nanos = start.elapsed(rt)?.as_nanos();
+    let phase = played.map_err(|fault| refusal(rt, fault))?;
     let all = u128::from(phase.bids).saturating_mul(u128::from(repeats));
     let each = nanos / all.max(1);
     println!(rt; "bids {} prices {}", phase.bids, phase.prices)?;

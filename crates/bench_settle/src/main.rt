@@ -14,7 +14,6 @@ fn tell_one(board: &mut SiteBoard, turn: u64) {
 }
 
 // Times the work of one turn, repeated; answers what run 9 is then shown at seat 1.
-// (Not `time_often` of the other benchmarks: this work changes a board in place and is never refused.)
 fn time<F: Fn(&mut SiteBoard, u64)>(
     rt: &HostRuntime,
     what: &str,

@@ -1,30 +1,21 @@
 #![tactic(auto)]
-// What the benchmark programs share: sheets, work repeated and timed, and how they end on a refusal or a wrong call.
+// What the benchmark programs share: sheets, and how they end on a refusal or a wrong call.
+ghost use Rattle.std.specs.Prelude.{◌≡◌, IfOk};
+ghost use Rattle.fault.specs.Checks.{Passes};
+ghost use Rattle.sheets.specs.Dense.{dense_checks};
+
 use anyhow::anyhow;
 use fault::faults::Fault;
 use sheets::dense::DenseSheet;
 use std::io;
-use std::time::Instant;
 
 // The dense sheet of a file's bytes.
-pub fn sheet_of(rt: &HostRuntime, bytes: Vec<u8>) -> anyhow::Result<DenseSheet> {
+pub fn sheet_of(rt: &HostRuntime, bytes: Vec<u8>) -> anyhow::Result<DenseSheet>
+    ensures { IfOk result (λ s. Passes (dense_checks bytes.items) × (s.bytes ≡ bytes)) }
+{
     let mut sheet = DenseSheet::new(rt.alloc());
     sheet.fill(bytes).map_err(|fault| refusal(rt, fault))?;
     Ok(sheet)
-}
-
-// What a step comes to when it is made over and over, each time on what it came to before, and the nanoseconds of all.
-pub fn time_often<T: Default + Drop, F: Fn(T) -> Result<T, Fault>>(
-    rt: &HostRuntime,
-    repeats: u64,
-    step: F,
-) -> anyhow::Result<(T, u128)>
-    requires { F.IsAlwaysCallable step }
-{
-    let start = Instant::now(rt)?;
-    let made = (0..repeats).try_fold(T::default(), |before, _| step(before));
-    let nanos = start.elapsed(rt)?.as_nanos();
-    Ok((made.map_err(|fault| refusal(rt, fault))?, nanos))
 }
 
 // The error of a refusal, after its line on standard error.
