@@ -1,24 +1,27 @@
 -- Copies of the told prices at the sites.
-use Rattle.std.specs.Prelude.{◌≡◌, ℕ, ◌+◌, ◌<◌, ◌≤◌, min, max, ◌⊎◌, Option, None, Some, IsSomeAnd, List, [], slice_index_or}
+use Rattle.std.specs.Prelude.{◌≡◌, ℕ, ◌+◌, ◌<◌, ◌≤◌, min, max, ◌⊎◌, List, [], slice_index_or, refl}
+use Rattle.std.proofs.Common.{arith}
 use Rattle.boards.specs.declared.rows.PriceRow.{PriceRow}
 use Rattle.boards.specs.declared.spans.Span.{Span}
 use Rattle.boards.specs.declared.copies.SiteCopy.{SiteCopy}
-use Rattle.boards.specs.Limits.{site_count}
+use Rattle.boards.specs.Limits.{seat_limit, site_count}
 use Rattle.boards.specs.Rows.{at}
+
+-- the span of no seat
+abbrev pub no_span : Span
+no_span = record { from = seat_limit; to = 0; none = λ _. (refl, refl); within = omega arith }
 
 -- the copy of site c
 abbrev pub copy_at : List SiteCopy → ℕ → SiteCopy
-copy_at copies c = slice_index_or copies c (record { row = record { prices = [] }; behind = None })
+copy_at copies c = slice_index_or copies c (record { row = record { prices = [] }; behind = no_span })
 
 -- the span holds seat k
-abbrev pub Covers : Option Span → ℕ → Type 0
-Covers None k = ⊥
-Covers (Some s) k = (s.from ≤ k) × (k < s.to)
+abbrev pub Covers : Span → ℕ → Type 0
+Covers s k = (s.from ≤ k) × (k < s.to)
 
 -- seat k is outside the span
-abbrev pub Misses : Option Span → ℕ → Type 0
-Misses None k = Unit {0}
-Misses (Some s) k = (k < s.from) ⊎ (s.to ≤ k)
+abbrev pub Misses : Span → ℕ → Type 0
+Misses s k = (k < s.from) ⊎ (s.to ≤ k)
 
 -- a seat outside the span of a copy
 abbrev pub Outside : SiteCopy → ℕ → Type 0
@@ -26,25 +29,23 @@ Outside c k = Misses c.behind k
 
 -- nothing to copy: no seat lies in the span
 abbrev pub NoSpan : SiteCopy → Type 0
-NoSpan c = c.behind ≡ None
+NoSpan c = (c.behind.from ≡ seat_limit) × (c.behind.to ≡ 0)
 
 -- a copy of zeros that lies behind nowhere
 abbrev pub Blank : SiteCopy → Type 0
 Blank c = NoSpan c × ((k : ℕ) → at c.row k ≡ 0)
 
 -- where the span begins that holds a seat too, and where it ends
-abbrev pub first_with : Option Span → ℕ → ℕ
-first_with None seat = seat
-first_with (Some s) seat = min s.from seat
+abbrev pub first_with : Span → ℕ → ℕ
+first_with s seat = min s.from seat
 
-abbrev pub end_with : Option Span → ℕ → ℕ
-end_with None seat = seat + 1
-end_with (Some s) seat = max s.to (seat + 1)
+abbrev pub end_with : Span → ℕ → ℕ
+end_with s seat = max s.to (seat + 1)
 
 -- c became d when a seat was noted: d has the prices of c, and that seat in its span
 pub record Marked (seat : ℕ) (c d : SiteCopy) : Type 0 where
   pub row : d.row ≡ c.row
-  pub span : IsSomeAnd d.behind (λ s. (s.from ≡ first_with c.behind seat) × (s.to ≡ end_with c.behind seat))
+  pub span : (d.behind.from ≡ first_with c.behind seat) × (d.behind.to ≡ end_with c.behind seat)
 
 -- c became d: it has the told prices in its span and its own elsewhere, and now lies behind nowhere
 pub record BroughtUp (told : PriceRow) (c d : SiteCopy) : Type 0 where
