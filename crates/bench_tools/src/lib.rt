@@ -1,9 +1,9 @@
 #![tactic(auto)]
 // What benchmark programs may share: sheets, work repeated and timed, and how they end on a refusal or a wrong call.
 ghost use Rattle.std.specs.Prelude.{◌≡◌, Ok, IfOk};
+ghost use Rattle.std.specs.List.{FoldsTo, range_with_len};
 ghost use Rattle.fault.specs.Checks.{Passes};
 ghost use Rattle.sheets.specs.Dense.{dense_checks};
-ghost use Rattle.bench_tools.specs.Repeats.{Leads};
 
 use anyhow::anyhow;
 use fault::faults::Fault;
@@ -28,7 +28,7 @@ pub fn time_often<T: Default + Drop, F: Fn(T) -> Result<T, Fault>>(
     step: F,
 ) -> anyhow::Result<(T, u128)>
     requires { F.IsAlwaysCallable step }
-    ensures { IfOk result (λ r. (first : T) × T.is_default first × Leads (λ x y. F.post step x (Ok y)) repeats first r.0) }
+    ensures { IfOk result (λ r. (first : T) × T.is_default first × FoldsTo (λ x _ y. F.post step x (Ok y)) first (range_with_len 0 repeats) r.0) }
 {
     let start = Instant::now(rt)?;
     let made = (0..repeats).try_fold(
